@@ -10,7 +10,7 @@ use Rattle.trace_events.specs.Outgoing.{names}
 use Rattle.trace_events.specs.Said.{out_transfer}
 use Rattle.trace_events.specs.Words.{is_some_and}
 use Rattle.state_addresses.specs.ConsumerLinks.{has_link}
-use Rattle.state_addresses.specs.Copies.{has_number, has_room, names_at}
+use Rattle.state_addresses.specs.Copies.{has_delivery, has_room, names_at}
 use Rattle.state_addresses.specs.Receivers.{receiver_on}
 use Rattle.state_addresses.specs.declared.copies.Receiver.{Receiver}
 
@@ -39,10 +39,10 @@ link_six = record { number = 6; session = session; handle = 0; role = Sender; ad
 abbrev twenty : Incoming
 twenty = record { number = 20; link = link_six; id = None; format = 0 }
 
-numbered : has_number 20 (twenty ∷ []) ≡ true
+numbered : has_delivery 20 (twenty ∷ []) ≡ true
 numbered = refl
 
-other_number : has_number 21 (twenty ∷ []) ≡ false
+other_number : has_delivery 21 (twenty ∷ []) ≡ false
 other_number = refl
 
 ended : has_link (link_six ∷ []) 6 ≡ true

@@ -17,23 +17,23 @@ use Rattle.trace_clauses.proofs.IncomingProgress.{judged-kept}
 use Rattle.trace_clauses.proofs.Parts.{IsKept, each_delivery}
 use Rattle.trace_clauses.proofs.UnsentCopies.{has_unsent_listed, listed_unsent, unsent_listed}
 use Rattle.trace_clauses.proofs.WaitingQueue.{all_contained, find_has}
-use Rattle.state_addresses.specs.Copies.{copies_on, copies_at, has_number}
+use Rattle.state_addresses.specs.Copies.{copies_on, copies_at, has_delivery}
 use Rattle.state_addresses.proofs.CopyNumbers.{number-of, number-from}
 
 last_of : (over : Bool) (last : Option Session) (s : Session) → (if over then None else last) ≡ Some s → last ≡ Some s
 last_of true last s is = absurd cc
 last_of false last s is = is
 
-none-empty : (ds : List Incoming) → ((n : ℕ) → has_number n ds ≡ false) → (length ds == 0) ≡ true
+none-empty : (ds : List Incoming) → ((n : ℕ) → has_delivery n ds ≡ false) → (length ds == 0) ≡ true
 none-empty [] none = refl
-none-empty (d ∷ ds) none = let never : true ≡ false = sym (ap (λ b. b || has_number d.number ds) (eq-eqb d.number d.number refl)) ∙ none d.number in absurd cc
+none-empty (d ∷ ds) none = let never : true ≡ false = sym (ap (λ b. b || has_delivery d.number ds) (eq-eqb d.number d.number refl)) ∙ none d.number in absurd cc
 
-empty-none : (ds : List Incoming) → (length ds == 0) ≡ true → (n : ℕ) → has_number n ds ≡ false
+empty-none : (ds : List Incoming) → (length ds == 0) ≡ true → (n : ℕ) → has_delivery n ds ≡ false
 empty-none [] is n = refl
 empty-none (d ∷ ds) is n = let never : (length (d ∷ ds) == 0) ≡ false = ne_eqb (length (d ∷ ds)) 0 (λ same. omega (arith, same)) in absurd cc
 
 -- a list is empty where nothing has any number
-pub empty-is : (ds : List Incoming) (empty : Bool) → IsTrue empty ↔ ((n : ℕ) → has_number n ds ≡ false) → empty ≡ (length ds == 0)
+pub empty-is : (ds : List Incoming) (empty : Bool) → IsTrue empty ↔ ((n : ℕ) → has_delivery n ds ≡ false) → empty ≡ (length ds == 0)
 empty-is ds true says = sym (none-empty ds (says.0 refl))
 empty-is ds false says = by (length ds == 0) refl
   where
@@ -61,15 +61,15 @@ module _ (rules : RuleSet) (past : List Event) (are : AreJudged rules past) (l :
   pub copies-here : copies_at rules l.number past ≡ unsent_copies rules l past
   copies-here = ap (λ o. copies_on rules past (where_passes (is_live past) o)) found ∙ ap (λ b. copies_on rules past (if b then Some l else None)) lives
 
-  pub has-unsent : (empty : Bool) → IsTrue empty ↔ ((n : ℕ) → has_number n (copies_at rules l.number past) ≡ false) → not empty ≡ has_unsent rules l past
+  pub has-unsent : (empty : Bool) → IsTrue empty ↔ ((n : ℕ) → has_delivery n (copies_at rules l.number past) ≡ false) → not empty ≡ has_unsent rules l past
   has-unsent empty says =
       ap not (empty-is (copies_at rules l.number past) empty says ∙ ap (λ ds. length ds == 0) copies-here) ∙ sym (has_unsent_listed rules l past (judged-kept rules past are))
 
   -- a delivery of the history stands there just where a copy of it is unsent
-  pub unsent-is : (d : Incoming) → incoming_at d.number past ≡ Some d → has_number d.number (copies_at rules l.number past) ≡ is_unsent rules d l past
-  unsent-is d at = ap (has_number d.number) copies-here ∙ by (has_number d.number (unsent_copies rules l past)) refl (is_unsent rules d l past) refl
+  pub unsent-is : (d : Incoming) → incoming_at d.number past ≡ Some d → has_delivery d.number (copies_at rules l.number past) ≡ is_unsent rules d l past
+  unsent-is d at = ap (has_delivery d.number) copies-here ∙ by (has_delivery d.number (unsent_copies rules l past)) refl (is_unsent rules d l past) refl
     where
-      by : (a : Bool) → has_number d.number (unsent_copies rules l past) ≡ a → (b : Bool) → is_unsent rules d l past ≡ b → a ≡ b
+      by : (a : Bool) → has_delivery d.number (unsent_copies rules l past) ≡ a → (b : Bool) → is_unsent rules d l past ≡ b → a ≡ b
       by true listed true unsent = refl
       by false listed false unsent = refl
       by false listed true unsent =

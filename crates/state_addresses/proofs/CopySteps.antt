@@ -39,7 +39,7 @@ use Rattle.trace_clauses.proofs.WaitingQueue.{contains_first, contains_later, co
 use Rattle.number_groups.specs.Numbers.{is_among}
 use Rattle.state_addresses.specs.Addressed.{IsAddressed}
 use Rattle.state_addresses.specs.ConsumerLinks.{has_link}
-use Rattle.state_addresses.specs.Copies.{copies_on, copies_at, has_number, copied_by, AreReceiversOf, AreReceivers, has_room, comes_to, names_at}
+use Rattle.state_addresses.specs.Copies.{copies_on, copies_at, has_delivery, copied_by, AreReceiversOf, AreReceivers, has_room, comes_to, names_at}
 use Rattle.state_addresses.specs.declared.copies.Receiver.{Receiver}
 use Rattle.state_addresses.proofs.CopyNumbers.{and_false, and_true, or_false, number-left, number-join, numbers-counted}
 
@@ -175,7 +175,7 @@ none-unsent rules past are l later =
 
 -- ---- as many numbers as copies
 
-pub copies-counted : (rules : RuleSet) (past : List Event) → AreJudged rules past → (link : ℕ) (ns : List ℕ) → IsDistinct nat_eq ns → ((n : ℕ) → is_among ns n ≡ has_number n (copies_at rules link past))
+pub copies-counted : (rules : RuleSet) (past : List Event) → AreJudged rules past → (link : ℕ) (ns : List ℕ) → IsDistinct nat_eq ns → ((n : ℕ) → is_among ns n ≡ has_delivery n (copies_at rules link past))
     → length ns ≡ length (copies_at rules link past)
 copies-counted rules past are link ns each same = numbers-counted (copies_at rules link past) (apart (where_passes (is_live past) (link_at link past))) ns each same
   where
@@ -271,30 +271,30 @@ module _ (rules : RuleSet) (e : Event) (past : List Event) (are : AreJudged rule
 
     -- of a link that was known, what the law adds to its list
     comes-added : (l : Link) (link n : ℕ) → l.number ≡ link → link_at link past ≡ Some l
-        → has_number n (if comes_due rules l e past then cons_option (completed_by e) [] else []) ≡ comes_to rules address e receivers (length (unsent_copies rules l past)) link n
+        → has_delivery n (if comes_due rules l e past then cons_option (completed_by e) [] else []) ≡ comes_to rules address e receivers (length (unsent_copies rules l past)) link n
     comes-added l link n own at =
-        ap (λ b. has_number n (if b then cons_option (completed_by e) [] else [])) (comes_due_listed rules e past are.1 (lawful-past rules e past lawful) l (ap (λ k. link_at k past) own ∙ at)
+        ap (λ b. has_delivery n (if b then cons_option (completed_by e) [] else [])) (comes_due_listed rules e past are.1 (lawful-past rules e past lawful) l (ap (λ k. link_at k past) own ∙ at)
         ∙ ap (λ b. b && nat_lt (length (unsent_copies rules l past)) (link_credit l past)) (copied-by l))
         ∙ by (length (unsent_copies rules l past)) (completed_by e) given
       where
         of_one : (count : ℕ) (d : Incoming) (many : Bool) → IfSome (if many then Some d else None) (λ d. AreReceiversOf address past receivers)
-            → has_number n (if (many && is_consumer_of address past l) && nat_lt count (link_credit l past) then d ∷ [] else [])
+            → has_delivery n (if (many && is_consumer_of address past l) && nat_lt count (link_credit l past) then d ∷ [] else [])
             ≡ is_some_and (if many then Some d else None) (λ d. n == d.number && has_room receivers link count)
         of_one count d false of = refl
         of_one count d true of =
             added (is_consumer_of address past l && nat_lt count (link_credit l past))
             ∙ sym (ap (λ b. n == d.number && b) (room-is address past receivers of link count l at))
           where
-            added : (b : Bool) → has_number n (if b then d ∷ [] else []) ≡ n == d.number && b
+            added : (b : Bool) → has_delivery n (if b then d ∷ [] else []) ≡ n == d.number && b
             added true = or_false (n == d.number) ∙ sym (and_true (n == d.number))
             added false = sym (and_false (n == d.number))
 
-        none : (b : Bool) → has_number n (if b then [] else []) ≡ false
+        none : (b : Bool) → has_delivery n (if b then [] else []) ≡ false
         none true = refl
         none false = refl
 
         by : (count : ℕ) (o : Option Incoming) → IfSome (where_passes (λ (d : Incoming). has_multicast rules address) o) (λ d. AreReceiversOf address past receivers)
-            → has_number n (if is_some_and o (λ d. has_multicast rules address && is_consumer_of address past l) && nat_lt count (link_credit l past) then cons_option o [] else [])
+            → has_delivery n (if is_some_and o (λ d. has_multicast rules address && is_consumer_of address past l) && nat_lt count (link_credit l past) then cons_option o [] else [])
             ≡ is_some_and (where_passes (λ (d : Incoming). has_multicast rules address) o) (λ d. n == d.number && has_room receivers link count)
         by count None of = refl
         by count (Some d) of = of_one count d (has_multicast rules address) of
@@ -380,25 +380,25 @@ module _ (rules : RuleSet) (e : Event) (past : List Event) (are : AreJudged rule
       quiet count link n none = ap (λ b. ((b || false) && not (names_at link n e)) && not (has_link ended link)) none
 
       stayed : (l : Link) (link n : ℕ) → l.number ≡ link → link_at link past ≡ Some l → (live : Bool) → is_live past l ≡ live
-          → now (length (copies_on rules past (if live then Some l else None))) link n (has_number n (copies_on rules past (if live then Some l else None)))
-          ≡ has_number n (copies_on rules (e ∷ past) (if is_live (e ∷ past) l then Some l else None))
+          → now (length (copies_on rules past (if live then Some l else None))) link n (has_delivery n (copies_on rules past (if live then Some l else None)))
+          ≡ has_delivery n (copies_on rules (e ∷ past) (if is_live (e ∷ past) l then Some l else None))
       stayed l link n own at false over =
           quiet 0 link n (comes-over 0 link n l at over)
-          ∙ sym (ap (λ b. has_number n (copies_on rules (e ∷ past) (if b then Some l else None))) (is_live-next rules e past are l (ap (λ k. link_at k past) own ∙ at) ∙ ap (λ b. b && not (ends_link l e)) over))
+          ∙ sym (ap (λ b. has_delivery n (copies_on rules (e ∷ past) (if b then Some l else None))) (is_live-next rules e past are l (ap (λ k. link_at k past) own ∙ at) ∙ ap (λ b. b && not (ends_link l e)) over))
       stayed l link n own at true live =
           let found = ap (λ k. link_at k past) own ∙ at in
           let next : is_live (e ∷ past) l ≡ not (ends_link l e) = is_live-next rules e past are l found ∙ ap (λ b. b && not (ends_link l e)) live in
-          let moved : has_number n (unsent_copies rules l (e ∷ past)) ≡ has_number n (unsent_copies rules l past) && not (names_at link n e) || comes_to rules address e receivers (length (unsent_copies rules l past)) link n =
-          ap (has_number n) (unsent_copies_move rules l e past are (lawful-past rules e past lawful))
+          let moved : has_delivery n (unsent_copies rules l (e ∷ past)) ≡ has_delivery n (unsent_copies rules l past) && not (names_at link n e) || comes_to rules address e receivers (length (unsent_copies rules l past)) link n =
+          ap (has_delivery n) (unsent_copies_move rules l e past are (lawful-past rules e past lawful))
           ∙ (number-join n (filter (λ d. not (names_on d l e)) (unsent_copies rules l past)) (if comes_due rules l e past then cons_option (completed_by e) [] else [])
-          ∙ (ap (λ b. b || has_number n (if comes_due rules l e past then cons_option (completed_by e) [] else []))
+          ∙ (ap (λ b. b || has_delivery n (if comes_due rules l e past then cons_option (completed_by e) [] else []))
           (number-left (λ k. is_some (out_transfer e) && names k e.note && is_on_link l e) n (unsent_copies rules l past)
-          ∙ ap (λ b. has_number n (unsent_copies rules l past) && not b) (names-is l link own found n))
-          ∙ ap (λ b. has_number n (unsent_copies rules l past) && not (names_at link n e) || b) (comes-added l link n own at))) in
-          ap (λ b. ((comes_to rules address e receivers (length (unsent_copies rules l past)) link n || has_number n (unsent_copies rules l past)) && not (names_at link n e)) && not b) (ended-is l link own at live)
-          ∙ (by (comes_to rules address e receivers (length (unsent_copies rules l past)) link n) (has_number n (unsent_copies rules l past)) (names_at link n e) (ends_link l e)
+          ∙ ap (λ b. has_delivery n (unsent_copies rules l past) && not b) (names-is l link own found n))
+          ∙ ap (λ b. has_delivery n (unsent_copies rules l past) && not (names_at link n e) || b) (comes-added l link n own at))) in
+          ap (λ b. ((comes_to rules address e receivers (length (unsent_copies rules l past)) link n || has_delivery n (unsent_copies rules l past)) && not (names_at link n e)) && not b) (ended-is l link own at live)
+          ∙ (by (comes_to rules address e receivers (length (unsent_copies rules l past)) link n) (has_delivery n (unsent_copies rules l past)) (names_at link n e) (ends_link l e)
           (comes-unnamed (length (unsent_copies rules l past)) link n) moved
-          ∙ sym (ap (λ b. has_number n (copies_on rules (e ∷ past) (if b then Some l else None))) next))
+          ∙ sym (ap (λ b. has_delivery n (copies_on rules (e ∷ past) (if b then Some l else None))) next))
         where
           swapped : (due before named : Bool) → (due ≡ true → named ≡ false) → (due || before) && not named ≡ before && not named || due
           swapped true before true unnamed = let never : true ≡ false = unnamed refl in absurd cc
@@ -406,46 +406,46 @@ module _ (rules : RuleSet) (e : Event) (past : List Event) (are : AreJudged rule
           swapped true false false unnamed = refl
           swapped false before named unnamed = sym (or_false (before && not named))
 
-          by : (due before named ends : Bool) → (due ≡ true → named ≡ false) → has_number n (unsent_copies rules l (e ∷ past)) ≡ before && not named || due
-              → ((due || before) && not named) && not ends ≡ has_number n (copies_on rules (e ∷ past) (if not ends then Some l else None))
+          by : (due before named ends : Bool) → (due ≡ true → named ≡ false) → has_delivery n (unsent_copies rules l (e ∷ past)) ≡ before && not named || due
+              → ((due || before) && not named) && not ends ≡ has_delivery n (copies_on rules (e ∷ past) (if not ends then Some l else None))
           by due before named true unnamed is = and_false ((due || before) && not named)
           by due before named false unnamed is = and_true ((due || before) && not named) ∙ (swapped due before named unnamed ∙ sym is)
 
       -- of a link that was not opened by the event
       unopened : (link n : ℕ) → (o : Option Link) → link_at link past ≡ o
-          → now (length (copies_on rules past (where_passes (is_live past) o))) link n (has_number n (copies_on rules past (where_passes (is_live past) o)))
-          ≡ has_number n (copies_on rules (e ∷ past) (where_passes (is_live (e ∷ past)) o))
+          → now (length (copies_on rules past (where_passes (is_live past) o))) link n (has_delivery n (copies_on rules past (where_passes (is_live past) o)))
+          ≡ has_delivery n (copies_on rules (e ∷ past) (where_passes (is_live (e ∷ past)) o))
       unopened link n None at = quiet 0 link n (comes-none 0 link n at)
       unopened link n (Some l) at = stayed l link n (judged-found rules past are.1 link l at).0 at (is_live past l) refl
 
       abbrev before : ℕ → ℕ → Bool
-      before link n = now (length (copies_at rules link past)) link n (has_number n (copies_at rules link past))
+      before link n = now (length (copies_at rules link past)) link n (has_delivery n (copies_at rules link past))
 
-      opened : (k : Link) → own_link e ≡ Some k → (n : ℕ) → before k.number n ≡ has_number n (copies_on rules (e ∷ past) (where_passes (is_live (e ∷ past)) (Some k)))
+      opened : (k : Link) → own_link e ≡ Some k → (n : ℕ) → before k.number n ≡ has_delivery n (copies_on rules (e ∷ past) (where_passes (is_live (e ∷ past)) (Some k)))
       opened k own n =
           let number = own_link-number rules e past k are own in
           let none : link_at k.number past ≡ None = link_at-later rules past are.1 k.number (omega (arith, number)) in
-          ap (λ o. now (length (copies_on rules past (where_passes (is_live past) o))) k.number n (has_number n (copies_on rules past (where_passes (is_live past) o)))) none
+          ap (λ o. now (length (copies_on rules past (where_passes (is_live past) o))) k.number n (has_delivery n (copies_on rules past (where_passes (is_live past) o)))) none
           ∙ (quiet 0 k.number n (comes-none 0 k.number n none) ∙ sym (by (is_live (e ∷ past) k)))
         where
           empty : unsent_copies rules k (e ∷ past) ≡ []
           empty = let number = own_link-number rules e past k are own in none-unsent rules (e ∷ past) are k (omega (arith, number))
 
-          by : (b : Bool) → has_number n (copies_on rules (e ∷ past) (if b then Some k else None)) ≡ false
-          by true = ap (has_number n) empty
+          by : (b : Bool) → has_delivery n (copies_on rules (e ∷ past) (if b then Some k else None)) ≡ false
+          by true = ap (has_delivery n) empty
           by false = refl
 
       -- whatever the event is, the numbers move so
-      pub copies-next : (link n : ℕ) → before link n ≡ has_number n (copies_at rules link (e ∷ past))
+      pub copies-next : (link n : ℕ) → before link n ≡ has_delivery n (copies_at rules link (e ∷ past))
       copies-next link n = by (own_link e) refl
         where
           of_another : (k : Link) → own_link e ≡ Some k → (b : Bool) → (k.number == link) ≡ b
-              → before link n ≡ has_number n (copies_on rules (e ∷ past) (where_passes (is_live (e ∷ past)) (if b then Some k else link_at link past)))
+              → before link n ≡ has_delivery n (copies_on rules (e ∷ past) (where_passes (is_live (e ∷ past)) (if b then Some k else link_at link past)))
           of_another k own true same =
-              subst (λ m. before m n ≡ has_number n (copies_on rules (e ∷ past) (where_passes (is_live (e ∷ past)) (Some k)))) (eqb-true k.number link same) (opened k own n)
+              subst (λ m. before m n ≡ has_delivery n (copies_on rules (e ∷ past) (where_passes (is_live (e ∷ past)) (Some k)))) (eqb-true k.number link same) (opened k own n)
           of_another k own false other = unopened link n (link_at link past) refl
 
           by : (o : Option Link) → own_link e ≡ o
-              → before link n ≡ has_number n (copies_on rules (e ∷ past) (where_passes (is_live (e ∷ past)) (find (λ (l : Link). l.number == link) (cons_option o (law.links past)))))
+              → before link n ≡ has_delivery n (copies_on rules (e ∷ past) (where_passes (is_live (e ∷ past)) (find (λ (l : Link). l.number == link) (cons_option o (law.links past)))))
           by None own = unopened link n (link_at link past) refl
           by (Some k) own = of_another k own (k.number == link) refl

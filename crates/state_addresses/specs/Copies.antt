@@ -32,12 +32,13 @@ copies_on rules past (Some l) = unsent_copies rules l past
 abbrev pub copies_at : RuleSet → ℕ → List Event → List Incoming
 copies_at rules link past = copies_on rules past (where_passes (is_live past) (link_at link past))
 
-abbrev pub has_number : ℕ → List Incoming → Bool
-has_number n ds = list_any (λ d. n == d.number) ds
+-- one of these deliveries has the number
+abbrev pub has_delivery : ℕ → List Incoming → Bool
+has_delivery n ds = list_any (λ d. n == d.number) ds
 
 -- just these stand in the table
 abbrev pub AreCopies : RuleSet → Copies → List Event → Type 0
-AreCopies rules table past = (link n : ℕ) → stands table link n ≡ has_number n (copies_at rules link past)
+AreCopies rules table past = (link n : ℕ) → stands table link n ≡ has_delivery n (copies_at rules link past)
 
 -- on each link as many stand as this says
 abbrev pub AreCounted : Copies → (ℕ → ℕ) → Type 0
