@@ -18,7 +18,7 @@ use Rattle.trace_events.specs.History.{history, judge}
 use Rattle.trace_clauses.specs.Written.{spoken_octets}
 use Rattle.trace_clauses.proofs.Made.{from, write, consumer, detach_of, pair, producer, q, written_to_consumer, written_to_producer}
 use Rattle.state_addresses.specs.ConsumerLinks.{consumer_at, opened_at, with_opened, without}
-use Rattle.state_addresses.specs.Consumers.{has_some, is_ended, opens_consumer, opens_for}
+use Rattle.state_addresses.specs.Consumers.{has_some, has_link_of, opens_consumer, opens_for}
 
 abbrev other : List ℕ
 other = codes "other"
@@ -114,13 +114,13 @@ link address n = record {
   their_first_count = 0;
 }
 
-ended_here : is_ended (link other 5 ∷ link q 6 ∷ []) q 6 ≡ true
+ended_here : has_link_of (link other 5 ∷ link q 6 ∷ []) q 6 ≡ true
 ended_here = refl
 
-ended_elsewhere : is_ended (link other 6 ∷ link q 5 ∷ []) q 6 ≡ false
+ended_elsewhere : has_link_of (link other 6 ∷ link q 5 ∷ []) q 6 ≡ false
 ended_elsewhere = refl
 
-none_ended : is_ended [] q 6 ≡ false
+none_ended : has_link_of [] q 6 ≡ false
 none_ended = refl
 
 -- ---- an address that has some

@@ -17,7 +17,7 @@ use Rattle.trace_events.proofs.LinkLives.{is_live-new, judged-stands}
 use Rattle.trace_events.proofs.LinkNumbers.{judged-found, link_at-later, own_link-number}
 use Rattle.trace_events.proofs.Links.{IsKnown}
 use Rattle.trace_events.proofs.SessionNumbers.{last_session-known}
-use Rattle.state_addresses.specs.Consumers.{is_ended, opens_for}
+use Rattle.state_addresses.specs.Consumers.{has_link_of, opens_for}
 use Rattle.trace_clauses.proofs.LinkEnds.{is_live-next, lives-live}
 
 -- ---- what a test finds in a list
@@ -74,7 +74,7 @@ module _ (rules : RuleSet) (e : Event) (past : List Event) (are : AreJudged rule
       let session = last_session-known rules past are.1 s.connection s.channel s (last_of (is_over s.connection past) (last_session s.connection s.channel past) s live.0) in
       (judged-stands rules past are.1).known s l.handle l session live.1
 
-  ended-found : (address : List ℕ) (n : ℕ) → is_ended ended address n ≡ true → (m : Link) × ((m.number ≡ n) × IsLiveLink m past × (ends_link m e ≡ true))
+  ended-found : (address : List ℕ) (n : ℕ) → has_link_of ended address n ≡ true → (m : Link) × ((m.number ≡ n) × IsLiveLink m past × (ends_link m e ≡ true))
   ended-found address n is =
       let found = any-from (λ (l : Link). bytes_eq l.address address && (l.number == n)) ended is in
       let m = found.0 in
@@ -89,8 +89,8 @@ module _ (rules : RuleSet) (e : Event) (past : List Event) (are : AreJudged rule
     found : link_at l.number past ≡ Some l
     found = ap (λ m. link_at m past) own ∙ at
 
-    ends-same : is_consumer_of address past l ≡ true → is_ended ended address n ≡ ends_link l e
-    ends-same is = by (is_ended ended address n) (ends_link l e) refl refl
+    ends-same : is_consumer_of address past l ≡ true → has_link_of ended address n ≡ ends_link l e
+    ends-same is = by (has_link_of ended address n) (ends_link l e) refl refl
       where
         live : IsLiveLink l past
         live = lives-live rules past are.1 l found (and_last (is_consumer l && bytes_eq l.address address) (is_live past l) is)
@@ -98,11 +98,11 @@ module _ (rules : RuleSet) (e : Event) (past : List Event) (are : AreJudged rule
         here : bytes_eq l.address address ≡ true
         here = and_last (is_consumer l) (bytes_eq l.address address) (and_first (is_consumer l && bytes_eq l.address address) (is_live past l) is)
 
-        by : (a b : Bool) → is_ended ended address n ≡ a → ends_link l e ≡ b → a ≡ b
+        by : (a b : Bool) → has_link_of ended address n ≡ a → ends_link l e ≡ b → a ≡ b
         by true true is ends = refl
         by false false is ends = refl
         by false true is ends =
-            let yes : is_ended ended address n ≡ true =
+            let yes : has_link_of ended address n ≡ true =
             any-gives (λ (m : Link). bytes_eq m.address address && (m.number == n)) ended l ((all l).1 (live, ends))
             (ap (λ b. b && (l.number == n)) here ∙ eq-eqb l.number n own) in
             sym is ∙ yes
@@ -111,9 +111,9 @@ module _ (rules : RuleSet) (e : Event) (past : List Event) (are : AreJudged rule
             let same : m.0 ≡ l = same_some m.0 l (sym (known m.0 m.1.1).at ∙ (ap (λ k. link_at k past) m.1.0 ∙ at)) in
             sym m.1.2 ∙ (ap (λ (k : Link). ends_link k e) same ∙ ends)
 
-    stood : is_consumer_of address past l && not (is_ended ended address n) ≡ is_consumer_of address (e ∷ past) l
+    stood : is_consumer_of address past l && not (has_link_of ended address n) ≡ is_consumer_of address (e ∷ past) l
     stood =
-        by (is_consumer l && bytes_eq l.address address) (is_live past l) (is_ended ended address n) (ends_link l e) ends-same
+        by (is_consumer l && bytes_eq l.address address) (is_live past l) (has_link_of ended address n) (ends_link l e) ends-same
         ∙ ap (λ b. is_consumer l && bytes_eq l.address address && b) (sym (is_live-next rules e past are l found))
       where
         by : (a live was ends : Bool) → (a && live ≡ true → was ≡ ends) → a && live && not was ≡ a && (live && not ends)
@@ -129,22 +129,22 @@ module _ (rules : RuleSet) (e : Event) (past : List Event) (are : AreJudged rule
     none-stood : link_at k.number past ≡ None
     none-stood = link_at-later rules past are.1 k.number (omega (arith, number))
 
-    none-ended : is_ended ended address k.number ≡ false
-    none-ended = by (is_ended ended address k.number) refl
+    none-ended : has_link_of ended address k.number ≡ false
+    none-ended = by (has_link_of ended address k.number) refl
       where
-        by : (b : Bool) → is_ended ended address k.number ≡ b → b ≡ false
+        by : (b : Bool) → has_link_of ended address k.number ≡ b → b ≡ false
         by false is = refl
         by true is = let m = ended-found address k.number is in let never : ◌≡◌ {A = Option Link} (Some m.0) None = sym (known m.0 m.1.1).at ∙ (ap (λ n. link_at n past) m.1.0 ∙ none-stood) in absurd cc
 
   abbrev now : List ℕ → ℕ → Bool → Bool
-  now address n before = (opens_for address n e || before) && not (is_ended ended address n)
+  now address n before = (opens_for address n e || before) && not (has_link_of ended address n)
 
   abbrev found_in : ℕ → Option Link → Option Link
   found_in n o = find (λ (l : Link). l.number == n) (cons_option o (links past))
 
   unopened : (address : List ℕ) (n : ℕ) → opens_for address n e ≡ false → (o : Option Link) → link_at n past ≡ o → now address n (is_some_and o (is_consumer_of address past)) ≡ is_some_and o (is_consumer_of address (e ∷ past))
-  unopened address n none None at = ap (λ b. (b || false) && not (is_ended ended address n)) none
-  unopened address n none (Some l) at = ap (λ b. (b || is_consumer_of address past l) && not (is_ended ended address n)) none ∙ stood address n l at
+  unopened address n none None at = ap (λ b. (b || false) && not (has_link_of ended address n)) none
+  unopened address n none (Some l) at = ap (λ b. (b || is_consumer_of address past l) && not (has_link_of ended address n)) none ∙ stood address n l at
 
   abbrev is_for : List ℕ → ℕ → Link → Bool
   is_for address n l = is_consumer l && bytes_eq l.address address && (l.number == n)
@@ -152,8 +152,8 @@ module _ (rules : RuleSet) (e : Event) (past : List Event) (are : AreJudged rule
   opened : (address : List ℕ) (k : Link) → own_link e ≡ Some k
       → now address k.number (is_some_and (link_at k.number past) (is_consumer_of address past)) ≡ is_consumer_of address (e ∷ past) k
   opened address k own =
-      ap (λ o. (is_some_and o (is_for address k.number) || is_some_and (link_at k.number past) (is_consumer_of address past)) && not (is_ended ended address k.number)) own
-      ∙ (ap (λ o. (is_for address k.number k || is_some_and o (is_consumer_of address past)) && not (is_ended ended address k.number)) (none-stood address k own)
+      ap (λ o. (is_some_and o (is_for address k.number) || is_some_and (link_at k.number past) (is_consumer_of address past)) && not (has_link_of ended address k.number)) own
+      ∙ (ap (λ o. (is_for address k.number k || is_some_and o (is_consumer_of address past)) && not (has_link_of ended address k.number)) (none-stood address k own)
       ∙ (ap (λ b. (is_for address k.number k || false) && not b) (none-ended address k own)
       ∙ (ap (λ b. (is_consumer k && bytes_eq k.address address && b || false) && true) (eq-eqb k.number k.number refl)
       ∙ (still (is_consumer k && bytes_eq k.address address) ∙ ap (λ b. is_consumer k && bytes_eq k.address address && b) (sym (is_live-new rules e past k are own))))))

@@ -43,5 +43,5 @@ abbrev pub opens_consumer : Event → Bool
 opens_consumer e = is_some (opened_consumer e)
 
 -- one of these links has the address and the number
-abbrev pub is_ended : List Link → List ℕ → ℕ → Bool
-is_ended ended address n = list_any (λ l. bytes_eq l.address address && (l.number == n)) ended
+abbrev pub has_link_of : List Link → List ℕ → ℕ → Bool
+has_link_of links address n = list_any (λ l. bytes_eq l.address address && (l.number == n)) links

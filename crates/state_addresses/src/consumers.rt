@@ -6,7 +6,7 @@ ghost use Rattle.capture_form.specs.declared.records.Record.{Record};
 ghost use Rattle.trace_events.specs.Address as law;
 ghost use Rattle.trace_events.specs.History.{history, judge};
 ghost use Rattle.state_tables.specs.EndedLinks.{AreEnded, views};
-ghost use Rattle.state_addresses.specs.Consumers.{AreConsumers, AreSame, is_ended, is_served, numbers_at, opens_consumer, opens_for, stands};
+ghost use Rattle.state_addresses.specs.Consumers.{AreConsumers, AreSame, has_link_of, is_served, numbers_at, opens_consumer, opens_for, stands};
 ghost use Rattle.trace_values.specs.View.{event_view};
 
 use crate::addresses::Addresses;
@@ -67,7 +67,7 @@ impl Consumers {
 
     /// The links stand nowhere any more.
     fn end(&mut self, ended: &[Link])
-        ensures { (address : List ℕ) (n : ℕ) → stands self.new address n ≡ (stands self.old address n && not (is_ended (views ended.now) address n)) }
+        ensures { (address : List ℕ) (n : ℕ) → stands self.new address n ≡ (stands self.old address n && not (has_link_of (views ended.now) address n)) }
     {
         for link in ended {
             self.groups.remove(link.address, link.number);
