@@ -3,7 +3,7 @@ use Rattle.std.proofs.Common.{◌≡◌, refl, ap, ◌∙◌, ℕ, Bool, true, f
 use Rattle.trace_events.specs.Words.{is_number, where_passes}
 use Rattle.trace_events.specs.Event.{Link, Incoming}
 use Rattle.trace_events.specs.Link.{is_producer}
-use Rattle.state_incoming.specs.EntryAnswers.{Knows, has_number}
+use Rattle.state_incoming.specs.EntryAnswers.{Knows, has_entry}
 use Rattle.state_incoming.specs.Held.{Held}
 use Rattle.state_incoming.specs.HeldTables.{held_in}
 use Rattle.state_incoming.specs.declared.deliveries.Deliveries.{Deliveries}
@@ -22,7 +22,7 @@ pub named-producer : (o : Option Link) (l : Link) → o ≡ Some l → is_produc
 named-producer o l is producer = ap (λ p. option_map (λ (l : Link). l.number) (where_passes is_producer p)) is ∙ ap (λ b. option_map (λ (l : Link). l.number) (if b then Some l else None)) producer
 
 -- what the table can tell of it has by its number
-pub knows-number : (table : Deliveries) (d : Incoming) → Knows table d → has_number table d.number ≡ true
+pub knows-number : (table : Deliveries) (d : Incoming) → Knows table d → has_entry table d.number ≡ true
 knows-number table d knows = by (held_in table d.number) refl knows
   where
     by : (o : Option Held) → held_in table d.number ≡ o → option_map (λ (x : Held). x.delivery) o ≡ Some d → is_some (held_in table d.number) ≡ true

@@ -13,7 +13,7 @@ use Rattle.trace_clauses.specs.Outcome.{is_to_tell, may_be_told, reasons, row}
 use Rattle.trace_clauses.proofs.IncomingProgress.{judged-kept}
 use Rattle.trace_clauses.proofs.Parts.{IsKept, each_delivery}
 use Rattle.trace_clauses.proofs.WaitingQueue.{all_contained}
-use Rattle.state_incoming.specs.EntryAnswers.{Knows, has_number}
+use Rattle.state_incoming.specs.EntryAnswers.{Knows, has_entry}
 use Rattle.state_incoming.specs.Held.{Held}
 use Rattle.state_incoming.specs.HeldTables.{held_in}
 use Rattle.state_incoming.specs.declared.deliveries.Deliveries.{Deliveries}
@@ -40,7 +40,7 @@ closed-bits true false true live is = absurd cc
 closed-bits true true told live is = absurd cc
 closed-bits false settled told live is = absurd cc
 
-pub knows-has : (table : Deliveries) (d : Incoming) → Knows table d → has_number table d.number ≡ true
+pub knows-has : (table : Deliveries) (d : Incoming) → Knows table d → has_entry table d.number ≡ true
 knows-has table d knows = by (held_in table d.number) knows
   where
     by : (o : Option Held) → option_map (λ (x : Held). x.delivery) o ≡ Some d → is_some o ≡ true

@@ -9,7 +9,7 @@ use Rattle.trace_events.specs.History.{judge_unopened, moment_of}
 use Rattle.trace_events.specs.Session.{has_unanswered_begin}
 use Rattle.trace_values.specs.Known.{CarriesKnown, OpensKnown}
 use Rattle.state_tables.proofs.OpenedKnown.{opens-known}
-use Rattle.state_incoming.specs.EntryAnswers.{has_number}
+use Rattle.state_incoming.specs.EntryAnswers.{has_entry}
 use Rattle.state_incoming.proofs.GroupAnswers.{judged-of}
 use Rattle.state_outgoing.specs.SentAnswers.{KnowsOrBegins}
 use Rattle.state_outgoing.specs.declared.deliveries.SentDeliveries.{SentDeliveries}
@@ -35,7 +35,7 @@ module _ (rules : RuleSet) (past : List Event) (connections : Connections) (link
   begun-or-going j (inl begins) = inr begins
   begun-or-going j (inr (l, live, going)) = inl (progress-knows rules past (judged-of rules past are.0) sent are.1.1.1.1.1.1.1.1.0 l j going)
 
-  pub next-carries : CarriesKnown (λ n. has_number deliveries n ≡ true) (λ j. KnowsOrBegins sent past j) (unopened rules past r)
+  pub next-carries : CarriesKnown (λ n. has_entry deliveries n ≡ true) (λ j. KnowsOrBegins sent past j) (unopened rules past r)
   next-carries = carries-known rules past deliveries (KnowsOrBegins sent past) are.0 are.1.1.1.1.0 begun-or-going r.connection (moment_of r.what) r.note
 
   pub next-opens : broken_clause rules (unopened rules past r) past ≡ None

@@ -17,7 +17,7 @@ use Rattle.trace_events.proofs.Along.{and_last}
 use Rattle.trace_events.proofs.Judged.{AreJudged}
 use Rattle.trace_clauses.proofs.IncomingProgress.{judged-kept}
 use Rattle.trace_clauses.proofs.Parts.{IsKept, each_delivery, found_holds}
-use Rattle.state_incoming.specs.EntryAnswers.{has_number}
+use Rattle.state_incoming.specs.EntryAnswers.{has_entry}
 use Rattle.state_incoming.specs.Held.{held, is_held}
 use Rattle.state_incoming.specs.HeldTables.{IsTable}
 use Rattle.state_incoming.specs.declared.deliveries.Deliveries.{Deliveries}
@@ -60,7 +60,7 @@ module _ (rules : RuleSet) (past : List Event) (are : AreJudged rules past) (Hol
 
 module _ (rules : RuleSet) (past : List Event) (table : Deliveries) (are : IsHistory rules past) (is : IsTable rules table past) where
   -- an undecided delivery is in the table
-  pub undecided-has : (d : Incoming) → incoming_at d.number past ≡ Some d → is_undecided rules d past ≡ true → has_number table d.number ≡ true
+  pub undecided-has : (d : Incoming) → incoming_at d.number past ≡ Some d → is_undecided rules d past ≡ true → has_entry table d.number ≡ true
   undecided-has d at undecided =
       ap is_some
       (table-there rules past table is.0 d.number (over.undecided-kept rules past (judged-of rules past are) table is.1.1 d.number d at undecided)
@@ -68,5 +68,5 @@ module _ (rules : RuleSet) (past : List Event) (table : Deliveries) (are : IsHis
       ∙ ap (λ b. option_map (held rules past) (if b then Some d else None)) (undecided-kept rules past d undecided)))
 
   -- so is the one whose outcome the next record tells, before what it opens is filled in
-  pub told-known : (c : ℕ) (moment : Moment) (note : Note) → IfSome (judge_unopened rules past c moment note).told (λ n. has_number table n ≡ true)
-  told-known c moment note = told-holds rules past (judged-of rules past are) (λ n. has_number table n ≡ true) undecided-has c moment note
+  pub told-known : (c : ℕ) (moment : Moment) (note : Note) → IfSome (judge_unopened rules past c moment note).told (λ n. has_entry table n ≡ true)
+  told-known c moment note = told-holds rules past (judged-of rules past are) (λ n. has_entry table n ≡ true) undecided-has c moment note

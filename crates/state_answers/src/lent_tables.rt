@@ -34,14 +34,14 @@ impl<'t> History for LentTables<'t> {
     ghost use Rattle.trace_clauses.specs.LinkClause.{asking};
     ghost use Rattle.trace_events.specs.Session.{has_unanswered_begin};
     ghost use Rattle.state_answers.specs.Tables.{IsWhole, StandFor};
-    ghost use Rattle.state_incoming.specs.EntryAnswers.{Knows, has_number};
+    ghost use Rattle.state_incoming.specs.EntryAnswers.{Knows, has_entry};
     ghost use Rattle.state_outgoing.specs.SentAnswers.{KnowsOrBegins};
 
     ghost stands_for = { λ tables rules history.
         StandFor rules tables.connections.now tables.links.now tables.consumers.now tables.deliveries.now
         tables.consumer_links.now tables.copies.now tables.sent.now tables.verdicts.now history };
 
-    ghost knows_number = { λ tables number history. has_number tables.deliveries.now number ≡ true };
+    ghost knows_number = { λ tables number history. has_entry tables.deliveries.now number ≡ true };
 
     ghost knows_incoming = { λ tables delivery history. Knows tables.deliveries.now delivery };
 

@@ -11,7 +11,7 @@ use Rattle.trace_clauses.specs.TransferClause.{to_carry}
 use Rattle.state_tables.specs.LetGo.{names_let_go}
 use Rattle.state_incoming.specs.Held.{Held, may_go}
 use Rattle.state_incoming.specs.HeldTables.{AreHeld, held_in}
-use Rattle.state_incoming.specs.EntryAnswers.{Knows, delivery_in, has_number, says_complete, says_closed, has_gone, address_in, payload_of, is_before, carried, carried_by}
+use Rattle.state_incoming.specs.EntryAnswers.{Knows, delivery_in, has_entry, says_complete, says_closed, has_gone, address_in, payload_of, is_before, carried, carried_by}
 use Rattle.state_incoming.specs.declared.deliveries.Deliveries.{Deliveries}
 use Rattle.state_incoming.proofs.HeldAnswers.{IsHeldOf, held-of, held-address, held-payload, held-closed, held-complete, held-gone, held-before, to_carry-held}
 use Rattle.state_incoming.proofs.GroupAnswers.{found-passes}
@@ -72,7 +72,7 @@ module _ (rules : RuleSet) (past : List Event) (table : Deliveries) (are : AreHe
       ∙ (ap (λ x. completed_before x m.entry.delivery past) k.same ∙ ap (λ x. completed_before d x past) m.same)))
 
   -- the delivery of a number that the table has
-  pub known-at : (n : ℕ) → has_number table n ≡ true → delivery_in table n ≡ incoming_at n past
+  pub known-at : (n : ℕ) → has_entry table n ≡ true → delivery_in table n ≡ incoming_at n past
   known-at n has = by (held_in table n) refl has
     where
       by : (o : Option Held) → held_in table n ≡ o → is_some o ≡ true → option_map (λ (x : Held). x.delivery) (held_in table n) ≡ incoming_at n past

@@ -9,8 +9,8 @@ use Rattle.state_incoming.specs.HeldTables.{held_in}
 use Rattle.state_incoming.specs.declared.deliveries.Deliveries.{Deliveries}
 
 -- the table can tell of the delivery that began in this record
-abbrev pub has_number : Deliveries → ℕ → Bool
-has_number table n = is_some (held_in table n)
+abbrev pub has_entry : Deliveries → ℕ → Bool
+has_entry table n = is_some (held_in table n)
 
 -- the delivery that it has of a number
 abbrev pub delivery_in : Deliveries → ℕ → Option Incoming

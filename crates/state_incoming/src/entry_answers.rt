@@ -9,7 +9,7 @@ ghost use Rattle.trace_events.specs.Waiting as waiting;
 ghost use Rattle.trace_values.specs.View.{Events, incoming_view};
 ghost use Rattle.state_tables.specs.LetGo.{names_let_go};
 ghost use Rattle.state_incoming.specs.EntryAnswers as entries;
-ghost use Rattle.state_incoming.specs.EntryAnswers.{Knows, delivery_in, has_number};
+ghost use Rattle.state_incoming.specs.EntryAnswers.{Knows, delivery_in, has_entry};
 ghost use Rattle.state_incoming.specs.HeldTables.{AreHeld, held_in};
 
 use crate::deliveries::Deliveries;
@@ -21,7 +21,7 @@ use trace_values::Incoming;
 impl Deliveries {
     /// The delivery of a client that begins in the record of this number, where the table can tell of it.
     pub fn incoming_at(&self, number: u64) -> Option<Incoming<'_>>
-        ensures value { (rules : RuleSet) (history : Events) → AreHeld rules self.now history → has_number self.now number ≡ true →
+        ensures value { (rules : RuleSet) (history : Events) → AreHeld rules self.now history → has_entry self.now number ≡ true →
             option_map incoming_view result ≡ received.incoming_at number history }
         ensures known { (rules : RuleSet) (history : Events) → AreHeld rules self.now history →
             IfSome (option_map incoming_view result) (Knows self.now) }

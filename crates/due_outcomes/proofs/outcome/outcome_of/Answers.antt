@@ -5,7 +5,7 @@ use Rattle.trace_events.specs.History.{history}
 use Rattle.trace_events.specs.Incoming.{incoming_at}
 use Rattle.trace_clauses.specs.Outcome.{may_be_told, reasons, row}
 use Rattle.trace_values.specs.View.{incoming_view}
-use Rattle.state_incoming.specs.EntryAnswers.{has_number}
+use Rattle.state_incoming.specs.EntryAnswers.{has_entry}
 use Rattle.state_incoming.proofs.KnownEntries.{knows-at}
 use Rattle.due_outcomes.proofs.OutcomeTables.{begun-at, knows-has, unless-told}
 use Rattle.due_outcomes.proofs.outcome.outcome_of.Goals as goal
@@ -19,7 +19,7 @@ returns-in_err-delivery-clause-none c = λ none records stands d there number.
     let past = history rules records in
     unless-told rules past c.args.tables.now stands d there
     (λ knows may rows.
-    let has = subst (λ n. has_number c.args.tables.now.deliveries.now n ≡ true) number (knows-has c.args.tables.now.deliveries.now d knows) in
+    let has = subst (λ n. has_entry c.args.tables.now.deliveries.now n ≡ true) number (knows-has c.args.tables.now.deliveries.now d knows) in
     let at : incoming_at c.args.number past ≡ Some d = subst (λ n. incoming_at n past ≡ Some d) number (begun-at rules past c.args.tables.now stands d there) in
     let given : None ≡ incoming_at c.args.number past = c.in_err-delivery.ensures.value rules past stands.1.1.1.1.0.0 has in
     absurd cc)
@@ -31,7 +31,7 @@ returns-then-not-may_be_told-clause-none c = λ none records stands d there numb
     let own = incoming_view c.in_ok-delivery.delivery in
     unless-told rules past c.args.tables.now stands d there
     (λ knows may rows.
-    let has = subst (λ n. has_number c.args.tables.now.deliveries.now n ≡ true) number (knows-has c.args.tables.now.deliveries.now d knows) in
+    let has = subst (λ n. has_entry c.args.tables.now.deliveries.now n ≡ true) number (knows-has c.args.tables.now.deliveries.now d knows) in
     let at : incoming_at c.args.number past ≡ Some d = subst (λ n. incoming_at n past ≡ Some d) number (begun-at rules past c.args.tables.now stands d there) in
     let given : Some own ≡ incoming_at c.args.number past = c.in_ok-delivery.ensures.value rules past stands.1.1.1.1.0.0 has in
     let same : own ≡ d = same_some own d (given ∙ at) in
@@ -45,7 +45,7 @@ returns-in_err-why-clause-none c = λ none records stands d there number.
     let own = incoming_view c.in_ok-delivery.delivery in
     unless-told rules past c.args.tables.now stands d there
     (λ knows may rows.
-    let has = subst (λ n. has_number c.args.tables.now.deliveries.now n ≡ true) number (knows-has c.args.tables.now.deliveries.now d knows) in
+    let has = subst (λ n. has_entry c.args.tables.now.deliveries.now n ≡ true) number (knows-has c.args.tables.now.deliveries.now d knows) in
     let at : incoming_at c.args.number past ≡ Some d = subst (λ n. incoming_at n past ≡ Some d) number (begun-at rules past c.args.tables.now stands d there) in
     let given : Some own ≡ incoming_at c.args.number past = c.in_ok-delivery.ensures.value rules past stands.1.1.1.1.0.0 has in
     let same : own ≡ d = same_some own d (given ∙ at) in

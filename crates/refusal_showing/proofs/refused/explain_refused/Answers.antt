@@ -12,7 +12,7 @@ use Rattle.trace_clauses.proofs.Unopened.{broken-unopened}
 use Rattle.trace_values.specs.Known.{CarriesKnown}
 use Rattle.trace_values.specs.View.{event_view}
 use Rattle.state_incoming.specs.Held.{held_at}
-use Rattle.state_incoming.specs.EntryAnswers.{has_number}
+use Rattle.state_incoming.specs.EntryAnswers.{has_entry}
 use Rattle.state_incoming.proofs.OverKnown.{table-whole}
 use Rattle.state_outgoing.specs.SentAnswers.{KnowsOrBegins}
 use Rattle.state_answers.proofs.NextKnown.{next-carries}
@@ -33,7 +33,7 @@ returns-clause-clause c = λ records stands.
     let live = subst (λ (e : Event). StandsLive e past) (sym judged) (placed-stands past r.connection (moment_of r.what) r.note) in
     let names = subst (λ (e : Event). NamesLive e past) (sym judged) (placed-names past r.connection (moment_of r.what) r.note) in
     let number : (event_view c.judge_unopened-event.result).number ≡ length past = ap (λ (e : Event). e.number) judged in
-    let carries = subst (λ (e : Event). CarriesKnown (λ n. has_number t.deliveries.now n ≡ true) (KnowsOrBegins t.sent.now past) e) (sym judged)
+    let carries = subst (λ (e : Event). CarriesKnown (λ n. has_entry t.deliveries.now n ≡ true) (KnowsOrBegins t.sent.now past) e) (sym judged)
     (next-carries rules past t.connections.now t.links.now t.consumers.now t.deliveries.now t.consumer_links.now t.copies.now t.sent.now t.verdicts.now lent r) in
     c.explain.ensures.clause past lent whole live names number carries
     ∙ (ap (λ (e : Event). broken_clause rules e past) judged ∙ sym (broken-unopened rules past r))
@@ -50,9 +50,9 @@ returns-clause-facts c = λ records stands.
     let live = subst (λ (e : Event). StandsLive e past) (sym judged) (placed-stands past r.connection (moment_of r.what) r.note) in
     let names = subst (λ (e : Event). NamesLive e past) (sym judged) (placed-names past r.connection (moment_of r.what) r.note) in
     let number : (event_view c.judge_unopened-event.result).number ≡ length past = ap (λ (e : Event). e.number) judged in
-    let carries = subst (λ (e : Event). CarriesKnown (λ n. has_number t.deliveries.now n ≡ true) (KnowsOrBegins t.sent.now past) e) (sym judged)
+    let carries = subst (λ (e : Event). CarriesKnown (λ n. has_entry t.deliveries.now n ≡ true) (KnowsOrBegins t.sent.now past) e) (sym judged)
     (next-carries rules past t.connections.now t.links.now t.consumers.now t.deliveries.now t.consumer_links.now t.copies.now t.sent.now t.verdicts.now lent r) in
-    let knows : ℕ → Type 0 = λ n. has_number t.deliveries.now n ≡ true in
+    let knows : ℕ → Type 0 = λ n. has_entry t.deliveries.now n ≡ true in
     let less : ℕ → Type 0 = λ n. is_some (held_at rules n past) ≡ true in
     let known : (n : ℕ) → less n → knows n = λ n l. ap is_some (table-whole rules past t.deliveries.now lent.1.1.1.1.0.0 whole n) ∙ l in
     let tells : TellOf rules t.deliveries.now t.sent.now past = record { judged = lent.0; held = lent.1.1.1.1.0.0; sent = lent.1.1.1.1.1.1.1.1.0.entries } in
