@@ -5,7 +5,8 @@ use Rattle.std.specs.List.{concat}
 use Rattle.std.proofs.lemmas.List.{reverse-append, take-append-drop}
 use Rattle.capture_form.specs.declared.records.Record.{Record}
 use Rattle.core_exchange.specs.declared.seat.Seat.{Seat}
-use Rattle.core_exchange.specs.Seats.{Begins, SeatAgrees, SeatsAgree, inputs_on, outs_on}
+use Rattle.trace_clauses.specs.Kept.{AreFirst}
+use Rattle.core_exchange.specs.Seats.{SeatAgrees, SeatsAgree, inputs_on, outs_on}
 use Rattle.conn_workers.specs.declared.report.ConnReport.{ConnReport}
 use Rattle.conn_serving.specs.Served.{IsServed}
 use Rattle.conn_workers.specs.Lines.{IsDone, IsFrom}
@@ -16,11 +17,11 @@ use Rattle.conn_serving.specs.Streams.{IsWritten}
 use Rattle.stream_reading.specs.Steps.{StepText}
 
 -- frames that begin others
-begins_parts : (xs ys : List (List ℕ)) → Begins xs ys → xs ++ drop (length xs) ys ≡ ys
+begins_parts : (xs ys : List (List ℕ)) → AreFirst xs ys → xs ++ drop (length xs) ys ≡ ys
 begins_parts xs ys b = ap (λ (t : List (List ℕ)). t ++ drop (length xs) ys) b ∙ take-append-drop (length xs) ys
 
 -- what was written of them, and the others behind it
-written_on : (steps : List StepText) (xs ys : List (List ℕ)) (octets : List ℕ) → Begins xs ys → IsWritten steps xs octets → IsWritten steps ys (octets ++ concat (drop (length xs) ys))
+written_on : (steps : List StepText) (xs ys : List (List ℕ)) (octets : List ℕ) → AreFirst xs ys → IsWritten steps xs octets → IsWritten steps ys (octets ++ concat (drop (length xs) ys))
 written_on steps xs ys octets b is = record {
   count = is.count;
   laced =
@@ -43,7 +44,7 @@ agree_pop records xs ys s e h =
 
 -- what came of a connection, and frames that begin those that were written to it
 told : {G : Type 0} (gates : List G) (Follows : G → G → Type 0) (Delivered Took : G → List ℕ → Type 0) (ended : G → Bool) (records : List Record) (k : ℕ) (frames : List (List ℕ)) (r : ConnReport G)
-    → IsServed Delivered Took ended r.gate r.items.items frames r.taken.items → r.conn ≡ k → IsFrom gates Follows k r.gate → inputs_on k records ≡ r.items.items → Begins frames (outs_on k records)
+    → IsServed Delivered Took ended r.gate r.items.items frames r.taken.items → r.conn ≡ k → IsFrom gates Follows k r.gate → inputs_on k records ≡ r.items.items → AreFirst frames (outs_on k records)
     → IsReported gates Follows Delivered Took ended records k r
 told gates Follows Delivered Took ended records k frames r served conn from items written =
     let rest = concat (drop (length frames) (outs_on k records)) in

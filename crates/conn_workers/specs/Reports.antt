@@ -4,8 +4,9 @@ use Rattle.capture_form.specs.declared.records.Record.{Record}
 use Rattle.capture_form.specs.Rules.{RuleSet}
 use Rattle.capture_form.specs.Text.{Trace}
 use Rattle.address_table.specs.Served.{AreSameRules}
+use Rattle.trace_clauses.specs.Kept.{AreFirst}
 use Rattle.core_exchange.specs.Captures.{IsOfCore}
-use Rattle.core_exchange.specs.Seats.{Begins, inputs_on, outs_on, owned_below}
+use Rattle.core_exchange.specs.Seats.{inputs_on, outs_on, owned_below}
 use Rattle.conn_workers.specs.declared.report.ConnReport.{ConnReport}
 use Rattle.conn_serving.specs.Served.{IsServed}
 use Rattle.conn_serving.specs.Streams.{IsWritten}
@@ -20,7 +21,7 @@ module _ {G : Type 0} (gates : List G) (Follows : G → G → Type 0) (Delivered
     pub from : IsFrom gates Follows k report.gate
     pub items : inputs_on k records ≡ report.items.items
     pub frames : List (List ℕ)
-    pub written : Begins frames (outs_on k records)
+    pub written : AreFirst frames (outs_on k records)
     pub served : IsServed Delivered Took ended report.gate report.items.items frames report.taken.items
     pub put : List ℕ
     pub all : IsWritten served.stream.steps (outs_on k records) put

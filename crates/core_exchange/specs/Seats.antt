@@ -1,11 +1,12 @@
 -- What ports took and gave, beside the one capture of a router.
-use Rattle.std.specs.Prelude.{◌≡◌, ℕ, ◌+◌, Bool, true, ◌&&◌, ◌||◌, not, List, [], ◌∷◌, length, take, map, filter, nat_lt, ◌==◌}
+use Rattle.std.specs.Prelude.{◌≡◌, ℕ, ◌+◌, Bool, true, ◌&&◌, ◌||◌, not, List, [], ◌∷◌, length, map, filter, nat_lt, ◌==◌}
 use Rattle.std.specs.List.{list_all}
 use Rattle.capture_form.specs.declared.records.What.{What}
 use Rattle.capture_form.specs.declared.records.Record.{Record}
 use Rattle.capture_form.specs.Rules.{RuleSet}
 use Rattle.capture_form.specs.Text.{Trace, frame_of}
 use Rattle.address_table.specs.Served.{AreSameRules}
+use Rattle.trace_clauses.specs.Kept.{AreFirst}
 use Rattle.route_items.specs.Inputs.{is_output}
 use Rattle.route_items.specs.WrittenFrames.{writes_on}
 use Rattle.core_exchange.specs.declared.seat.Seat.{Seat}
@@ -34,15 +35,11 @@ owned_below n records = list_all (is_owned_below n) records
 
 -- ---- what seats tell of it
 
--- others begin with these
-abbrev pub Begins : {A : Type 0} → List A → List A → Type 0
-Begins front all = front ≡ take (length front) all
-
 -- the seat is of connection k, and tells what the records have of it
 pub record SeatAgrees (records : List Record) (k : ℕ) (seat : Seat) : Type 0 where
   pub conn : seat.conn ≡ k
   pub items : inputs_on k records ≡ seat.items.items
-  pub frames : Begins seat.frames.items (outs_on k records)
+  pub frames : AreFirst seat.frames.items (outs_on k records)
 
 -- the seats are those of connections k and up, and tell what the records have of them
 abbrev pub SeatsAgree : List Record → ℕ → List Seat → Type 0

@@ -4,7 +4,8 @@ ghost use Rattle.std.specs.Prelude.{◌≡◌, ◌↔◌, IsTrue, true};
 ghost use Rattle.capture_form.specs.Text.{frame_of};
 ghost use Rattle.route_items.specs.Inputs.{is_output};
 ghost use Rattle.route_items.specs.WrittenFrames.{writes_on};
-ghost use Rattle.core_exchange.specs.Seats.{Agrees, SeatAgrees, SeatsAgree, Begins, inputs_on, outs_on, is_input_on, owned_below, is_owned_below};
+ghost use Rattle.trace_clauses.specs.Kept.{AreFirst};
+ghost use Rattle.core_exchange.specs.Seats.{Agrees, SeatAgrees, SeatsAgree, inputs_on, outs_on, is_input_on, owned_below, is_owned_below};
 
 use crate::seat::Seat;
 use address_table::Rules;
@@ -61,7 +62,7 @@ fn are_inputs(records: &[Record], conn: u32, items: &[What]) -> bool
 
 /// Whether these frames begin those that were written on a connection.
 fn begin_outs(records: &[Record], conn: u32, frames: &[Frame]) -> bool
-    ensures { IsTrue result ↔ Begins frames.now (outs_on conn records.now) }
+    ensures { IsTrue result ↔ AreFirst frames.now (outs_on conn records.now) }
 {
     let mut rest = frames;
     for entry in records {

@@ -57,8 +57,8 @@ abbrev pub WentToAddress : Event → List Event → Type 0
 WentToAddress e past =
     IfSome (out_transfer e) (λ fields. IsSomeAnd (noted e.note past) (λ d. IsSomeAnd e.link (λ l. l.address ≡ address_of d past)))
 
--- octets are the first ones of others
-abbrev pub AreFirst : List ℕ → List ℕ → Type 0
+-- some are the first ones of all
+abbrev pub AreFirst : {A : Type 0} → List A → List A → Type 0
 AreFirst some all = some ≡ take (length some) all
 
 -- what a delivery to a client has carried with this transfer are the first octets of the payload of the complete delivery

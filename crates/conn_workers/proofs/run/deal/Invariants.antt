@@ -1,10 +1,10 @@
 use Rattle.std.proofs.Common.{◌≡◌, ◌≤◌, vec_len}
-use Rattle.core_exchange.specs.Seats.{Begins}
+use Rattle.trace_clauses.specs.Kept.{AreFirst}
 use Rattle.conn_workers.proofs.run.deal.Given as goal
 
 abbrev pub invariant-loop-gate : goal.invariant-loop-gate
 invariant-loop-gate g l = record {
-  begins : Begins l.gates.items g.J.Origin.gates;
+  begins : AreFirst l.gates.items g.J.Origin.gates;
   some : vec_len l.gates ≤ vec_len l.fn.gates;
   jobs : vec_len l.jobs ≡ l.workers;
 }
