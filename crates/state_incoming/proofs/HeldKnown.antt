@@ -20,7 +20,7 @@ use Rattle.trace_events.proofs.Links.{passing}
 use Rattle.trace_clauses.proofs.Incomings.{judged-part, judged-sound, at-step}
 use Rattle.trace_clauses.proofs.OneConsumer.{incoming_at-is}
 use Rattle.state_addresses.specs.Addressed.{IsAddressed}
-use Rattle.state_incoming.specs.Held.{IsEntry, Held, held, is_held, held_at, address_behind, held_next, held_on, unbegun, held_begun, is_begun_served, Follows, Begins}
+use Rattle.state_incoming.specs.Held.{IsEntry, Held, held, is_held, held_at, address_behind, held_next, held_on, unbegun, held_begun, is_begun_served, Follows, HeldBegins}
 use Rattle.state_incoming.specs.Held.{says_arriving, says_waiting, says_gone, says_paired, may_go, may_tell, comes_before}
 use Rattle.state_incoming.specs.declared.held.Fate.{Fate}
 use Rattle.state_incoming.proofs.HeldSteps.{older, held-behind}
@@ -70,7 +70,7 @@ pub follows : (rules : RuleSet) (e : Event) (to : List ℕ) (has : Bool) (earlie
 follows rules e to has earlier later is = λ records r next entry addressed same.
     held-after rules e (history rules records) ((r, next.0), history-judged rules records) next.1 to addressed earlier entry ∙ (ap (λ b. held_next rules e to b earlier) (sym same) ∙ sym is)
 
-pub begins : (rules : RuleSet) (e : Event) (to : List ℕ) (has : Bool) (later : Option Held) → later ≡ held_begun rules e to has → Begins rules e to has later
+pub begins : (rules : RuleSet) (e : Event) (to : List ℕ) (has : Bool) (later : Option Held) → later ≡ held_begun rules e to has → HeldBegins rules e to has later
 begins rules e to has later is = λ records r next addressed same.
     held-first rules e (history rules records) ((r, next.0), history-judged rules records) next.1 to addressed ∙ (ap (held_begun rules e to) (sym same) ∙ sym is)
 

@@ -218,8 +218,8 @@ Follows rules e to has earlier later =
     → held_at rules earlier.delivery.number (e ∷ history rules records) ≡ later
 
 -- this is the entry of the event's own number behind it
-abbrev pub Begins : RuleSet → Event → List ℕ → Bool → Option Held → Type 0
-Begins rules e to has later =
+abbrev pub HeldBegins : RuleSet → Event → List ℕ → Bool → Option Held → Type 0
+HeldBegins rules e to has later =
     (records : List Record) (r : Record) → IsLawfulNext rules records r e
     → IsAddressed e (history rules records) to
     → has ≡ is_begun_served e to (λ address. has_consumer address (e ∷ history rules records))

@@ -17,7 +17,7 @@ ghost use Rattle.trace_clauses.specs.TransferClause.{to_carry};
 ghost use Rattle.pairing_cert.specs.declared.note.Note.TheVariants as notes;
 ghost use Rattle.capture_form.specs.declared.records.Record.{Record};
 ghost use Rattle.state_incoming.specs.Held as kept;
-ghost use Rattle.state_incoming.specs.Held.{IsEntry, Follows, Begins};
+ghost use Rattle.state_incoming.specs.Held.{IsEntry, Follows, HeldBegins};
 ghost use Rattle.state_incoming.specs.HeldViews.{held_view};
 ghost use Rattle.state_incoming.specs.LetGo.{is_spent};
 ghost use Rattle.trace_values.specs.View.{Events, incoming_view, event_view};
@@ -126,7 +126,7 @@ impl HeldDelivery {
         has_consumer: bool,
     ) -> Result<Option<HeldDelivery>, AllocError>
         ensures begun { IfOk result (λ held. option_map held_view held ≡ kept.held_begun rules.now (event_view event.now) address.now has_consumer) }
-        ensures known { IfOk result (λ held. Begins rules.now (event_view event.now) address.now has_consumer (option_map held_view held)) }
+        ensures known { IfOk result (λ held. HeldBegins rules.now (event_view event.now) address.now has_consumer (option_map held_view held)) }
         ensures first { OnErr result (is_some (law.incoming_begun (event_view event.now)) ≡ true) }
     {
         let held = HeldDelivery::first(alloc, rules, event, address, has_consumer)?;

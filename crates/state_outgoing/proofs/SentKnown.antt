@@ -11,7 +11,7 @@ use Rattle.trace_events.specs.Work.{stands_unsettled, carries_closed}
 use Rattle.trace_events.proofs.Judged.{AreJudged, history-judged}
 use Rattle.trace_events.proofs.SettlingSteps.{is_to_settle-parts}
 use Rattle.state_outgoing.specs.LetGo.{is_done, is_finished}
-use Rattle.state_outgoing.specs.Sent.{Sent, sent, sent_at, sent_next, sent_begun, to_settle, is_left_unsettled, IsEntry, Follows, Begins}
+use Rattle.state_outgoing.specs.Sent.{Sent, sent, sent_at, sent_next, sent_begun, to_settle, is_left_unsettled, IsEntry, Follows, SentBegins}
 use Rattle.state_outgoing.proofs.SentBegun.{begun-once}
 use Rattle.state_outgoing.proofs.SentFollowed.{sent-behind, sent-first}
 
@@ -84,6 +84,6 @@ pub follows : (e : Event) (earlier later : Sent) → later ≡ sent_next e earli
 follows e earlier later is = λ rules records r next entry.
     sent-on rules e (history rules records) ((r, next), history-judged rules records) earlier entry ∙ ap Some (sym is)
 
-pub begins : (e : Event) (later : Option Sent) → later ≡ sent_begun e → Begins e later
+pub begins : (e : Event) (later : Option Sent) → later ≡ sent_begun e → SentBegins e later
 begins e later is = λ rules records r next.
     sent-first rules e (history rules records) ((r, next), history-judged rules records) ∙ sym is

@@ -138,7 +138,7 @@ Follows e earlier later =
     → IsEntry (history rules records) earlier → sent_at earlier.delivery.number (e ∷ history rules records) ≡ Some later
 
 -- this is the entry of the number of the event of a next record, behind it
-abbrev pub Begins : Event → Option Sent → Type 0
-Begins e later =
+abbrev pub SentBegins : Event → Option Sent → Type 0
+SentBegins e later =
     (rules : RuleSet) (records : List Record) (r : Record) → e ≡ judge rules (history rules records) r
     → sent_at e.number (e ∷ history rules records) ≡ later

@@ -20,7 +20,7 @@ ghost use Rattle.trace_clauses.specs.TransferClause.{is_payload_so_far};
 ghost use Rattle.state_outgoing.specs.Given.{gives, says};
 ghost use Rattle.state_outgoing.specs.LetGo.{is_done, is_finished};
 ghost use Rattle.state_outgoing.specs.Sent as kept;
-ghost use Rattle.state_outgoing.specs.Sent.{IsEntry, Follows, Begins};
+ghost use Rattle.state_outgoing.specs.Sent.{IsEntry, Follows, SentBegins};
 ghost use Rattle.state_outgoing.specs.SentViews.{sent_view, decided_view};
 ghost use Rattle.trace_values.specs.View.{Events, decision_view, event_view, outgoing_view};
 
@@ -77,7 +77,7 @@ impl SentDelivery {
     /// Memory was refused, for a delivery that the event begins.
     pub fn begin(alloc: Global, event: &Event) -> Result<Option<SentDelivery>, AllocError>
         ensures begun { IfOk result (λ own. option_map sent_view own ≡ kept.sent_begun (event_view event.now)) }
-        ensures known { IfOk result (λ own. Begins (event_view event.now) (option_map sent_view own)) }
+        ensures known { IfOk result (λ own. SentBegins (event_view event.now) (option_map sent_view own)) }
         ensures first { OnErr result (is_some (law.outgoing_begun (event_view event.now)) ≡ true) }
     {
         let own = SentDelivery::first(alloc, event)?;
