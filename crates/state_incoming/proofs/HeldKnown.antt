@@ -20,7 +20,7 @@ use Rattle.trace_events.proofs.Links.{passing}
 use Rattle.trace_clauses.proofs.Incomings.{judged-part, judged-sound, at-step}
 use Rattle.trace_clauses.proofs.OneConsumer.{incoming_at-is}
 use Rattle.state_addresses.specs.Addressed.{IsAddressed}
-use Rattle.state_incoming.specs.Held.{IsEntry, Held, held, is_held, held_at, address_behind, held_next, held_on, unbegun, held_begun, is_begun_served, Follows, HeldBegins}
+use Rattle.state_incoming.specs.Held.{IsEntry, Held, held, is_held, held_at, address_behind, held_next, held_on, unbegun, held_begun, is_begun_served, HeldFollows, HeldBegins}
 use Rattle.state_incoming.specs.Held.{says_arriving, says_waiting, says_gone, says_paired, may_go, may_tell, comes_before}
 use Rattle.state_incoming.specs.declared.held.Fate.{Fate}
 use Rattle.state_incoming.proofs.HeldSteps.{older, held-behind}
@@ -66,7 +66,7 @@ module _ (rules : RuleSet) (e : Event) (past : List Event) (are : AreJudged rule
           ∙ (ap (λ b. if b then new (Some d) else option_and_then (held_on rules e to law) (held_at rules e.number past)) (passing (λ (x : Incoming). x.number == e.number) e.incoming d begun).1
           ∙ sym (ap new begun))
 
-pub follows : (rules : RuleSet) (e : Event) (to : List ℕ) (has : Bool) (earlier : Held) (later : Option Held) → later ≡ held_next rules e to has earlier → Follows rules e to has earlier later
+pub follows : (rules : RuleSet) (e : Event) (to : List ℕ) (has : Bool) (earlier : Held) (later : Option Held) → later ≡ held_next rules e to has earlier → HeldFollows rules e to has earlier later
 follows rules e to has earlier later is = λ records r next entry addressed same.
     held-after rules e (history rules records) ((r, next.0), history-judged rules records) next.1 to addressed earlier entry ∙ (ap (λ b. held_next rules e to b earlier) (sym same) ∙ sym is)
 

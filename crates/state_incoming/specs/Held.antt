@@ -210,8 +210,8 @@ abbrev pub IsEntry : RuleSet → List Event → Held → Type 0
 IsEntry rules past x = held_at rules x.delivery.number past ≡ Some x
 
 -- what was the entry before the event is this behind it
-abbrev pub Follows : RuleSet → Event → List ℕ → Bool → Held → Option Held → Type 0
-Follows rules e to has earlier later =
+abbrev pub HeldFollows : RuleSet → Event → List ℕ → Bool → Held → Option Held → Type 0
+HeldFollows rules e to has earlier later =
     (records : List Record) (r : Record) → IsLawfulNext rules records r e → IsEntry rules (history rules records) earlier
     → IsAddressed e (history rules records) to
     → has ≡ has_consumer (address_behind e to earlier) (e ∷ history rules records)

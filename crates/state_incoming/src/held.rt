@@ -17,7 +17,7 @@ ghost use Rattle.trace_clauses.specs.TransferClause.{to_carry};
 ghost use Rattle.pairing_cert.specs.declared.note.Note.TheVariants as notes;
 ghost use Rattle.capture_form.specs.declared.records.Record.{Record};
 ghost use Rattle.state_incoming.specs.Held as kept;
-ghost use Rattle.state_incoming.specs.Held.{IsEntry, Follows, HeldBegins};
+ghost use Rattle.state_incoming.specs.Held.{IsEntry, HeldFollows, HeldBegins};
 ghost use Rattle.state_incoming.specs.HeldViews.{held_view};
 ghost use Rattle.state_incoming.specs.LetGo.{is_spent};
 ghost use Rattle.trace_values.specs.View.{Events, incoming_view, event_view};
@@ -363,7 +363,7 @@ impl HeldDelivery {
     ) -> Result<bool, AllocError>
         ensures next { IfOk result (λ stays. (if stays then Some (held_view self.new) else None)
             ≡ kept.held_next rules.now (event_view event.now) address.now has_consumer (held_view self.old)) }
-        ensures known { IfOk result (λ stays. Follows rules.now (event_view event.now) address.now has_consumer (held_view self.old)
+        ensures known { IfOk result (λ stays. HeldFollows rules.now (event_view event.now) address.now has_consumer (held_view self.old)
             (if stays then Some (held_view self.new) else None)) }
         ensures unchanged { OnErr result (held_view self.new ≡ held_view self.old) }
         ensures same { (held_view self.new).delivery ≡ (held_view self.old).delivery }

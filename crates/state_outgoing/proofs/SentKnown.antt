@@ -11,7 +11,7 @@ use Rattle.trace_events.specs.Work.{stands_unsettled, carries_closed}
 use Rattle.trace_events.proofs.Judged.{AreJudged, history-judged}
 use Rattle.trace_events.proofs.SettlingSteps.{is_to_settle-parts}
 use Rattle.state_outgoing.specs.LetGo.{is_done, is_finished}
-use Rattle.state_outgoing.specs.Sent.{Sent, sent, sent_at, sent_next, sent_begun, to_settle, is_left_unsettled, IsEntry, Follows, SentBegins}
+use Rattle.state_outgoing.specs.Sent.{Sent, sent, sent_at, sent_next, sent_begun, to_settle, is_left_unsettled, IsEntry, SentFollows, SentBegins}
 use Rattle.state_outgoing.proofs.SentBegun.{begun-once}
 use Rattle.state_outgoing.proofs.SentFollowed.{sent-behind, sent-first}
 
@@ -80,7 +80,7 @@ sent-on rules e past are x entry =
     ∙ (ap (λ b. if b then sent_begun e else option_map (sent_next e) (sent_at n past)) (begun-once rules e past are n x.delivery found.at)
     ∙ ap (option_map (sent_next e)) entry)
 
-pub follows : (e : Event) (earlier later : Sent) → later ≡ sent_next e earlier → Follows e earlier later
+pub follows : (e : Event) (earlier later : Sent) → later ≡ sent_next e earlier → SentFollows e earlier later
 follows e earlier later is = λ rules records r next entry.
     sent-on rules e (history rules records) ((r, next), history-judged rules records) earlier entry ∙ ap Some (sym is)
 

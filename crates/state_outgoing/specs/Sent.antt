@@ -132,8 +132,8 @@ abbrev pub IsKnownTo : List Event → Outgoing → Type 0
 IsKnownTo past j = (outgoing_at j.number past ≡ Some j) ⊎ (j.number ≡ length past)
 
 -- what was the entry before the event of a next record is this behind it
-abbrev pub Follows : Event → Sent → Sent → Type 0
-Follows e earlier later =
+abbrev pub SentFollows : Event → Sent → Sent → Type 0
+SentFollows e earlier later =
     (rules : RuleSet) (records : List Record) (r : Record) → e ≡ judge rules (history rules records) r
     → IsEntry (history rules records) earlier → sent_at earlier.delivery.number (e ∷ history rules records) ≡ Some later
 

@@ -20,7 +20,7 @@ ghost use Rattle.trace_clauses.specs.TransferClause.{is_payload_so_far};
 ghost use Rattle.state_outgoing.specs.Given.{gives, says};
 ghost use Rattle.state_outgoing.specs.LetGo.{is_done, is_finished};
 ghost use Rattle.state_outgoing.specs.Sent as kept;
-ghost use Rattle.state_outgoing.specs.Sent.{IsEntry, Follows, SentBegins};
+ghost use Rattle.state_outgoing.specs.Sent.{IsEntry, SentFollows, SentBegins};
 ghost use Rattle.state_outgoing.specs.SentViews.{sent_view, decided_view};
 ghost use Rattle.trace_values.specs.View.{Events, decision_view, event_view, outgoing_view};
 
@@ -238,7 +238,7 @@ impl SentDelivery {
     /// Memory was refused, for the octets of a terminal state that decides it; then all stays as it was.
     pub fn take(&mut self, event: &Event) -> Result<(), AllocError>
         ensures next { OnOk result (sent_view self.new ≡ kept.sent_next (event_view event.now) (sent_view self.old)) }
-        ensures known { OnOk result (Follows (event_view event.now) (sent_view self.old) (sent_view self.new)) }
+        ensures known { OnOk result (SentFollows (event_view event.now) (sent_view self.old) (sent_view self.new)) }
         ensures unchanged { OnErr result (sent_view self.new ≡ sent_view self.old) }
         ensures state { OnErr result (kept.takes_state (event_view event.now) (sent_view self.old) ≡ true) }
     {
