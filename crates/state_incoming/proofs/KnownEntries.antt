@@ -11,7 +11,7 @@ use Rattle.trace_clauses.specs.TransferClause.{to_carry}
 use Rattle.state_tables.specs.LetGo.{names_let_go}
 use Rattle.state_incoming.specs.Held.{Held, may_go}
 use Rattle.state_incoming.specs.HeldTables.{AreHeld, held_in}
-use Rattle.state_incoming.specs.EntryAnswers.{Knows, delivery_in, has_entry, says_complete, says_closed, has_gone, address_in, payload_of, is_before, carried, carried_by}
+use Rattle.state_incoming.specs.EntryAnswers.{Knows, delivery_in, has_entry, says_complete, says_closed, has_gone, address_in, payload_of, is_before, to_go, to_go_by}
 use Rattle.state_incoming.specs.declared.deliveries.Deliveries.{Deliveries}
 use Rattle.state_incoming.proofs.HeldAnswers.{IsHeldOf, held-of, held-address, held-payload, held-closed, held-complete, held-gone, held-before, to_carry-held}
 use Rattle.state_incoming.proofs.GroupAnswers.{found-passes}
@@ -99,18 +99,18 @@ module _ (rules : RuleSet) (past : List Event) (table : Deliveries) (are : AreHe
   knows-of None = tt
   knows-of (Some n) = knows-given n
 
-  knows-passing : (n : ℕ) → IfSome (carried (held_in table n)) (Knows table)
+  knows-passing : (n : ℕ) → IfSome (to_go (held_in table n)) (Knows table)
   knows-passing n = by (held_in table n) refl
     where
       pass : (x : Held) → held_in table n ≡ Some x → (b : Bool) → IfSome (option_map (λ (y : Held). y.delivery) (if b then Some x else None)) (Knows table)
       pass x is true = knows-entry n x is
       pass x is false = tt
 
-      by : (o : Option Held) → held_in table n ≡ o → IfSome (carried o) (Knows table)
+      by : (o : Option Held) → held_in table n ≡ o → IfSome (to_go o) (Knows table)
       by None is = tt
       by (Some x) is = pass x is (may_go x)
 
-  pub knows-carried : (note : Note) → IfSome (carried_by table note) (Knows table)
+  pub knows-carried : (note : Note) → IfSome (to_go_by table note) (Knows table)
   knows-carried (notes.Pair n) = knows-passing n
   knows-carried notes.None = tt
   knows-carried (notes.Told why) = tt
@@ -120,17 +120,17 @@ module _ (rules : RuleSet) (past : List Event) (table : Deliveries) (are : AreHe
   same-given law None is = tt
   same-given law (Some d) is = is
 
-  pub given-carried : (note : Note) → IfSome (carried_by table note) (λ d. to_carry rules note past ≡ Some d)
+  pub given-carried : (note : Note) → IfSome (to_go_by table note) (λ d. to_carry rules note past ≡ Some d)
   given-carried (notes.Pair n) = by (held_in table n) refl
     where
-      by : (o : Option Held) → held_in table n ≡ o → IfSome (carried o) (λ d. to_carry rules (notes.Pair n) past ≡ Some d)
+      by : (o : Option Held) → held_in table n ≡ o → IfSome (to_go o) (λ d. to_carry rules (notes.Pair n) past ≡ Some d)
       by None is = tt
-      by (Some x) is = same-given (to_carry rules (notes.Pair n) past) (carried (Some x)) (to_carry-held rules n past ∙ ap carried (table-law rules past table are n x is))
+      by (Some x) is = same-given (to_carry rules (notes.Pair n) past) (to_go (Some x)) (to_carry-held rules n past ∙ ap to_go (table-law rules past table are n x is))
   given-carried notes.None = tt
   given-carried (notes.Told why) = tt
 
   -- of one that was not let go
-  pub known-carried : (note : Note) → names_let_go table.let_go.items note ≡ false → carried_by table note ≡ to_carry rules note past
-  known-carried (notes.Pair n) there = ap carried (table-there rules past table are n there) ∙ sym (to_carry-held rules n past)
+  pub known-carried : (note : Note) → names_let_go table.let_go.items note ≡ false → to_go_by table note ≡ to_carry rules note past
+  known-carried (notes.Pair n) there = ap to_go (table-there rules past table are n there) ∙ sym (to_carry-held rules n past)
   known-carried notes.None there = refl
   known-carried (notes.Told why) there = refl

@@ -49,11 +49,11 @@ abbrev pub is_before : Option Held → Option Held → Bool
 is_before o p = is_some_and o (λ x. is_some_and p (comes_before x))
 
 -- the delivery of the entry, where it may go to consumers
-abbrev pub carried : Option Held → Option Incoming
-carried o = option_map (λ x. x.delivery) (where_passes may_go o)
+abbrev pub to_go : Option Held → Option Incoming
+to_go o = option_map (λ x. x.delivery) (where_passes may_go o)
 
 -- that of the entry which a note names
-abbrev pub carried_by : Deliveries → Note → Option Incoming
-carried_by table (notes.Pair n) = carried (held_in table n)
-carried_by table notes.None = None
-carried_by table (notes.Told why) = None
+abbrev pub to_go_by : Deliveries → Note → Option Incoming
+to_go_by table (notes.Pair n) = to_go (held_in table n)
+to_go_by table notes.None = None
+to_go_by table (notes.Told why) = None

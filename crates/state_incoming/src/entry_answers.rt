@@ -112,7 +112,7 @@ impl Deliveries {
         ensures known { (rules : RuleSet) (history : Events) → AreHeld rules self.now history →
             IfSome (option_map incoming_view result) (Knows self.now) }
     {
-        self.carried_by(note)
+        self.to_go_by(note)
     }
 
     // What the entry of a number says, if there is one.
@@ -190,8 +190,8 @@ impl Deliveries {
         }
     }
 
-    fn carried(&self, number: u64) -> Option<Incoming<'_>>
-        ensures { option_map incoming_view result ≡ entries.carried (held_in self.now number) }
+    fn to_go(&self, number: u64) -> Option<Incoming<'_>>
+        ensures { option_map incoming_view result ≡ entries.to_go (held_in self.now number) }
     {
         match self.get(number) {
             Some(held) if held.may_go() => Some(held.delivery()),
@@ -199,11 +199,11 @@ impl Deliveries {
         }
     }
 
-    fn carried_by(&self, note: Note) -> Option<Incoming<'_>>
-        ensures { option_map incoming_view result ≡ entries.carried_by self.now note }
+    fn to_go_by(&self, note: Note) -> Option<Incoming<'_>>
+        ensures { option_map incoming_view result ≡ entries.to_go_by self.now note }
     {
         match note {
-            Note::Pair(number) => self.carried(number),
+            Note::Pair(number) => self.to_go(number),
             Note::None | Note::Told(_) => None,
         }
     }
