@@ -62,12 +62,12 @@ incoming_number delivery = option_map (λ (d : Incoming). d.number) delivery
 abbrev pub carrier_number : Option Carrier → Option ℕ
 carrier_number carrier = option_map (λ (c : Carrier). c.outgoing.number) carrier
 
--- the delivery that a transfer carries
-abbrev pub carried : Named → Option ℕ
-carried names.Nothing = None
-carried (names.Carried delivery) = Some delivery.number
-carried (names.Kept delivery complete gone) = Some delivery.number
-carried (names.Unknown number) = Some number
+-- the number of the delivery that a note names
+abbrev pub named_number : Named → Option ℕ
+named_number names.Nothing = None
+named_number (names.Carried delivery) = Some delivery.number
+named_number (names.Kept delivery complete gone) = Some delivery.number
+named_number (names.Unknown number) = Some number
 
 -- ---- of all that a clause compares
 
@@ -98,7 +98,7 @@ named_in (kinds.Attach facts) = two (session_number facts.session) None
 named_in (kinds.Sending facts) = two (session_number facts.session) (link_number facts.link)
 named_in (kinds.Beginning facts) = two (Some facts.link.number) None
 named_in (kinds.GoingOn facts) = going_on facts.first facts.note
-named_in (kinds.Carrying facts) = two (Some facts.link.number) (carried facts.named)
+named_in (kinds.Carrying facts) = two (Some facts.link.number) (named_number facts.named)
 named_in (kinds.Payload facts) = two (Some facts.delivery.number) None
 named_in (kinds.Order facts) = order facts
 named_in (kinds.Flow facts) = two (flow_session facts.session) (flow_link facts.link)

@@ -132,7 +132,7 @@ fn named_in(facts: &Facts, refused: u64, granting: Granting) -> [u64; 8]
         Facts::Carrying(facts) => granting.beside(
             refused,
             Some(facts.link.number),
-            carried(&facts.named),
+            named_number(&facts.named),
         ),
         Facts::Payload(facts) => granting.beside(refused, Some(facts.delivery.number), None),
         Facts::Order(facts) => order(refused, granting, facts),
@@ -225,9 +225,9 @@ fn going_on(refused: u64, granting: Granting, first: &Option<Outgoing>, note: No
     }
 }
 
-/// The delivery that a transfer carries.
-fn carried(named: &Named) -> Option<u64>
-    ensures { result ≡ spec.carried named.now }
+/// The number of the delivery that a note names.
+fn named_number(named: &Named) -> Option<u64>
+    ensures { result ≡ spec.named_number named.now }
 {
     match named {
         Named::Carried(delivery) => Some(delivery.number),
