@@ -13,7 +13,7 @@ use Rattle.conn_engine.specs.declared.fault.EngineFault.TheVariants as faults
 use Rattle.conn_engine.specs.declared.engine_state.Loss.TheVariants.{Untold, Told, Refused}
 use Rattle.conn_engine.specs.declared.engine_state.EngineState.TheVariants.{Reading, Closing, Over}
 use Rattle.conn_engine.specs.Closing.{place_given}
-use Rattle.conn_engine.specs.FrameEnds.{first_at, left_of, marks_after, no_marks}
+use Rattle.conn_engine.specs.FrameEnds.{first_at, frame_ends_after, left_of, no_frame_ends}
 use Rattle.conn_engine.specs.Said.{is_close, is_close_said, is_open, is_open_said, said_read, time_out_said}
 use Rattle.conn_engine.specs.Silence.{empty_frame, is_due, patience, silence_after, silence_given, no_silence, time_out_after}
 use Rattle.conn_engine.specs.declared.silence.Silence.{Silence}
@@ -133,7 +133,7 @@ no_frame : is_close (1 ∷ 2 ∷ []) ≡ false
 unfolding whole_frame frame_at
 no_frame = refl
 
-no_close : marks_after no_marks 5 ((1 ∷ 2 ∷ []) ∷ []) ≡ no_marks
+no_close : frame_ends_after no_frame_ends 5 ((1 ∷ 2 ∷ []) ∷ []) ≡ no_frame_ends
 unfolding whole_frame frame_at
 no_close = refl
 

@@ -14,7 +14,7 @@ use Rattle.conn_engine.specs.declared.engine_state.Loss.TheVariants.{Untold, Tol
 use Rattle.conn_engine.specs.declared.engine_state.EngineState.{EngineState}
 use Rattle.conn_engine.specs.declared.engine_state.EngineState.TheVariants.{Reading, Closing, Over}
 use Rattle.conn_engine.specs.Closing.{over_of, place_given}
-use Rattle.conn_engine.specs.FrameEnds.{marks_left}
+use Rattle.conn_engine.specs.FrameEnds.{frame_ends_left}
 use Rattle.conn_engine.specs.Silence.{silence_given, time_out_after}
 use Rattle.conn_engine.specs.Serving.{Connection, EndsAt, EndsOver, HasFed, and_unkept, items_of}
 use Rattle.conn_engine.specs.Feeding.{AfterPiece, AfterSteps, FedAt, StopsFor, FeedState, Went, and_fed, and_piece, place_after, place_at_fault, feed_state_of, items_at_fault}
@@ -187,15 +187,15 @@ fed_elsewhere before after fed h items ahead time_out ends = record {
 
 -- the first octets that waited were given
 pub fed_first : (before after : Connection) (fed : List ℕ) (n : ℕ)
-    → after ≡ record before { waiting = drop n before.waiting; marks = marks_left before.marks n; place = place_given before.place before.marks.closed n; silence = silence_given before.silence n } → HasFed before fed → HasFed after fed
+    → after ≡ record before { waiting = drop n before.waiting; frame_ends = frame_ends_left before.frame_ends n; place = place_given before.place before.frame_ends.closed n; silence = silence_given before.silence n } → HasFed before fed → HasFed after fed
 fed_first before after fed n is h = subst (λ (c : Connection). HasFed c fed) (sym is)
-    (fed_elsewhere before (record before { waiting = drop n before.waiting; marks = marks_left before.marks n; place = place_given before.place before.marks.closed n; silence = silence_given before.silence n }) fed h refl refl refl
-    (ends_given before.place before.marks.closed n before.ahead h.unkept h.last h.ends))
+    (fed_elsewhere before (record before { waiting = drop n before.waiting; frame_ends = frame_ends_left before.frame_ends n; place = place_given before.place before.frame_ends.closed n; silence = silence_given before.silence n }) fed h refl refl refl
+    (ends_given before.place before.frame_ends.closed n before.ahead h.unkept h.last h.ends))
 
 -- frames were taken
-pub fed_refilled : (before after : Connection) (fed : List ℕ) → after ≡ record before { frames = after.frames; waiting = after.waiting; is_idle = after.is_idle; marks = after.marks } → HasFed before fed → HasFed after fed
+pub fed_refilled : (before after : Connection) (fed : List ℕ) → after ≡ record before { frames = after.frames; waiting = after.waiting; is_idle = after.is_idle; frame_ends = after.frame_ends } → HasFed before fed → HasFed after fed
 fed_refilled before after fed same h = subst (λ (c : Connection). HasFed c fed) (sym same)
-    (fed_elsewhere before (record before { frames = after.frames; waiting = after.waiting; is_idle = after.is_idle; marks = after.marks }) fed h refl refl refl h.ends)
+    (fed_elsewhere before (record before { frames = after.frames; waiting = after.waiting; is_idle = after.is_idle; frame_ends = after.frame_ends }) fed h refl refl refl h.ends)
 
 -- a loss that the router was told, or did not take
 told_over : (place : EngineState) (phase : Phase) (ahead : Ahead) (unkept : List ℕ) (last : List What) → is_loss_due phase place ≡ true → EndsAt place ahead unkept last → EndsOver ahead Untold last

@@ -4,25 +4,25 @@ use Rattle.std.specs.List.{concat}
 use Rattle.std.proofs.lemmas.List.{append-nil, length-append}
 use Rattle.std.proofs.lemmas.List.Folds.{concat-append}
 use Rattle.conn_engine.specs.declared.frame_ends.FrameEnds.{FrameEnds}
-use Rattle.conn_engine.specs.FrameEnds.{marks_after, marks_at}
+use Rattle.conn_engine.specs.FrameEnds.{frame_ends_after, frame_ends_at}
 use Rattle.conn_engine.specs.Taking.{TookFrame, TookFrames}
 
 -- where the first open and the first close end, behind one frame more
-marks_behind : (marks : FrameEnds) (n : ℕ) (more : List (List ℕ)) (frame : List ℕ) → marks_after marks n (more ++ frame ∷ []) ≡ marks_at (marks_after marks n more) (n + length (concat more)) frame
-marks_behind marks n [] frame = ap (λ (k : ℕ). marks_at marks k frame) (omega arith)
-marks_behind marks n (first ∷ more) frame =
-    marks_behind (marks_at marks n first) (n + length first) more frame
-    ∙ ap (λ (k : ℕ). marks_at (marks_after (marks_at marks n first) (n + length first) more) k frame) (omega (arith, length-append first (concat more)))
+frame_ends_behind : (frame_ends : FrameEnds) (n : ℕ) (more : List (List ℕ)) (frame : List ℕ) → frame_ends_after frame_ends n (more ++ frame ∷ []) ≡ frame_ends_at (frame_ends_after frame_ends n more) (n + length (concat more)) frame
+frame_ends_behind frame_ends n [] frame = ap (λ (k : ℕ). frame_ends_at frame_ends k frame) (omega arith)
+frame_ends_behind frame_ends n (first ∷ more) frame =
+    frame_ends_behind (frame_ends_at frame_ends n first) (n + length first) more frame
+    ∙ ap (λ (k : ℕ). frame_ends_at (frame_ends_after (frame_ends_at frame_ends n first) (n + length first) more) k frame) (omega (arith, length-append first (concat more)))
 
 -- none
-pub took_none : (frames : List (List ℕ)) (waiting : List ℕ) (marks : FrameEnds) → TookFrames frames frames waiting waiting marks marks
-took_none frames waiting marks = record { more = []; given = sym (append-nil frames); put = sym (append-nil waiting); marked = refl }
+pub took_none : (frames : List (List ℕ)) (waiting : List ℕ) (frame_ends : FrameEnds) → TookFrames frames frames waiting waiting frame_ends frame_ends
+took_none frames waiting frame_ends = record { more = []; given = sym (append-nil frames); put = sym (append-nil waiting); ends_are = refl }
 
 -- one more
-pub took_more : (frames mid after : List (List ℕ)) (waiting waiting_mid waiting_after : List ℕ) (marks marks_mid marks_then : FrameEnds) (next next_after : ℕ)
-    → TookFrames frames mid waiting waiting_mid marks marks_mid → TookFrame mid after waiting_mid waiting_after marks_mid marks_then next next_after true
-    → TookFrames frames after waiting waiting_after marks marks_then
-took_more frames mid after waiting waiting_mid waiting_after marks marks_mid marks_then next next_after took one =
+pub took_more : (frames mid after : List (List ℕ)) (waiting waiting_mid waiting_after : List ℕ) (frame_ends frame_ends_mid frame_ends_then : FrameEnds) (next next_after : ℕ)
+    → TookFrames frames mid waiting waiting_mid frame_ends frame_ends_mid → TookFrame mid after waiting_mid waiting_after frame_ends_mid frame_ends_then next next_after true
+    → TookFrames frames after waiting waiting_after frame_ends frame_ends_then
+took_more frames mid after waiting waiting_mid waiting_after frame_ends frame_ends_mid frame_ends_then next next_after took one =
     let frame = one.0 in
     record {
       more = took.more ++ frame ∷ [];
@@ -30,10 +30,10 @@ took_more frames mid after waiting waiting_mid waiting_after marks marks_mid mar
       put =
           one.2 ∙ ap (λ (t : List ℕ). t ++ frame) took.put ∙ append_assoc waiting (concat took.more) frame
           ∙ ap (λ (t : List ℕ). waiting ++ t) (ap (λ (t : List ℕ). concat took.more ++ t) (sym (append-nil frame)) ∙ sym (concat-append took.more (frame ∷ [])));
-      marked =
-          one.3 ∙ ap (λ (t : FrameEnds). marks_at t (length waiting_mid) frame) took.marked
-          ∙ ap (λ (k : ℕ). marks_at (marks_after marks (length waiting) took.more) k frame) (ap length took.put ∙ length-append waiting (concat took.more))
-          ∙ sym (marks_behind marks (length waiting) took.more frame);
+      ends_are =
+          one.3 ∙ ap (λ (t : FrameEnds). frame_ends_at t (length waiting_mid) frame) took.ends_are
+          ∙ ap (λ (k : ℕ). frame_ends_at (frame_ends_after frame_ends (length waiting) took.more) k frame) (ap length took.put ∙ length-append waiting (concat took.more))
+          ∙ sym (frame_ends_behind frame_ends (length waiting) took.more frame);
     }
 
 -- the next one is asked for from a higher number, and there are no more than this

@@ -20,7 +20,7 @@ use Rattle.conn_engine.specs.declared.engine_state.EngineState.TheVariants.{Read
 use Rattle.conn_engine.specs.declared.frame_ends.FrameEnds.{FrameEnds}
 use Rattle.conn_engine.specs.Closing.{is_over, over_of, place_given}
 use Rattle.conn_engine.specs.Lacing.{IsPut}
-use Rattle.conn_engine.specs.FrameEnds.{marks_after, marks_left}
+use Rattle.conn_engine.specs.FrameEnds.{frame_ends_after, frame_ends_left}
 use Rattle.conn_engine.specs.Silence.{empty_frame, is_asked, patience, silence_given}
 use Rattle.conn_engine.specs.Serving.{Connection, Extent, Whole, Part, HasGiven, SaysAt, SaysLast, and_unkept}
 use Rattle.conn_engine.specs.Feeding.{AfterPiece, AfterSteps, FedAt, ItemRefused, StopsFor, FeedState, Went, and_fed, and_piece, extent_after, place_after, place_at_fault, feed_state_of}
@@ -130,17 +130,17 @@ stop_says extent faults.Memory ahead last said (none, inr is) = inr (item_last a
 
 -- ---- a feed
 
--- what was put is the same where frames and marks are
-pub put_on : (before after : Connection) (ticks : ℕ) (put : List ℕ) → after.frames ≡ before.frames → after.marks ≡ before.marks → (is_asked before.time_out ≡ true → is_asked after.time_out ≡ true)
-    → IsPut before.frames before.marks (is_asked before.time_out) ticks put → IsPut after.frames after.marks (is_asked after.time_out) ticks put
-put_on before after ticks put frames marks still is =
-    subst (λ (f : List (List ℕ)). IsPut f after.marks (is_asked after.time_out) ticks put) (sym frames)
-    (subst (λ (m : FrameEnds). IsPut before.frames m (is_asked after.time_out) ticks put) (sym marks) (put_asked before.frames before.marks (is_asked before.time_out) (is_asked after.time_out) ticks put still is))
+-- what was put is the same where frames and their ends are
+pub put_on : (before after : Connection) (ticks : ℕ) (put : List ℕ) → after.frames ≡ before.frames → after.frame_ends ≡ before.frame_ends → (is_asked before.time_out ≡ true → is_asked after.time_out ≡ true)
+    → IsPut before.frames before.frame_ends (is_asked before.time_out) ticks put → IsPut after.frames after.frame_ends (is_asked after.time_out) ticks put
+put_on before after ticks put frames frame_ends still is =
+    subst (λ (f : List (List ℕ)). IsPut f after.frame_ends (is_asked after.time_out) ticks put) (sym frames)
+    (subst (λ (m : FrameEnds). IsPut before.frames m (is_asked after.time_out) ticks put) (sym frame_ends) (put_asked before.frames before.frame_ends (is_asked before.time_out) (is_asked after.time_out) ticks put still is))
 
 given_on : (extent extent_then : Extent) (before after : Connection) (fed given piece : List ℕ) (last : List What) (said : List ℕ) (ticks : ℕ) (h : HasGiven extent before fed given ticks) → h.said ≡ [] → h.unkept ≡ []
-    → after.frames ≡ before.frames → after.marks ≡ before.marks → Went (and_piece (feed_state_of before) piece) (feed_state_of after) last said → (after.ahead.phase ≡ Open → said ≡ []) → SaysAt extent_then after.place after.ahead [] said
+    → after.frames ≡ before.frames → after.frame_ends ≡ before.frame_ends → Went (and_piece (feed_state_of before) piece) (feed_state_of after) last said → (after.ahead.phase ≡ Open → said ≡ []) → SaysAt extent_then after.place after.ahead [] said
     → HasGiven extent_then after (fed ++ piece) given ticks
-given_on extent extent_then before after fed given piece last said ticks h none kept frames marks went silent says = record {
+given_on extent extent_then before after fed given piece last said ticks h none kept frames frame_ends went silent says = record {
   steps = h.steps ++ went.steps;
   unkept = [];
   said = said;
@@ -150,53 +150,53 @@ given_on extent extent_then before after fed given piece last said ticks h none 
       ap (λ (t : List ℕ). given ++ t) went.waiting
       ∙ octets_on given before.waiting h.said said h.steps went.steps before.frames h.put before.ahead.phase after.ahead.phase none went.follow
       (λ is. silent (open_stays before.ahead.phase after.ahead.phase went.steps is went.follow)) h.behind (λ is. unlaced before.frames ticks h.put is h.is_put.laced) h.octets;
-  is_put = put_on before after ticks h.put frames marks (asks_on before.time_out after.time_out went.steps went.time_out) h.is_put;
+  is_put = put_on before after ticks h.put frames frame_ends (asks_on before.time_out after.time_out went.steps went.time_out) h.is_put;
   says = says;
   behind = behind_on before.ahead.phase after.ahead.phase went.steps before.frames after.frames went.follow frames h.behind;
 }
 
 given_stopped : (extent : Extent) (before after : Connection) (fed given piece : List ℕ) (fault : EngineFault) (last : List What) (said : List ℕ) (ticks : ℕ) (h : HasGiven extent before fed given ticks) → h.said ≡ [] → h.unkept ≡ []
-    → after.frames ≡ before.frames → after.marks ≡ before.marks → Went (and_piece (feed_state_of before) piece) (feed_state_of after) last said → StopsFor fault after.ahead last said → after.place ≡ place_after (Err fault) after.ahead.phase
+    → after.frames ≡ before.frames → after.frame_ends ≡ before.frame_ends → Went (and_piece (feed_state_of before) piece) (feed_state_of after) last said → StopsFor fault after.ahead last said → after.place ≡ place_after (Err fault) after.ahead.phase
     → HasGiven (extent_after extent (Err fault)) after (fed ++ piece) given ticks
-given_stopped extent before after fed given piece fault last said ticks h none kept frames marks went stops place =
-    given_on extent (extent_after extent (Err fault)) before after fed given piece last said ticks h none kept frames marks went (λ is. stop_unsaid fault after.ahead last said is stops)
+given_stopped extent before after fed given piece fault last said ticks h none kept frames frame_ends went stops place =
+    given_on extent (extent_after extent (Err fault)) before after fed given piece last said ticks h none kept frames frame_ends went (λ is. stop_unsaid fault after.ahead last said is stops)
     (subst (λ (p : EngineState). SaysAt (extent_after extent (Err fault)) p after.ahead [] said) (sym place) (stop_says extent fault after.ahead last said stops))
 
 given_steps : (extent : Extent) (before after : Connection) (fed given piece : List ℕ) (result : Result Unit EngineFault) (ticks : ℕ) (h : HasGiven extent before fed given ticks) → h.said ≡ [] → h.unkept ≡ []
-    → after.frames ≡ before.frames → after.marks ≡ before.marks → AfterSteps (and_piece (feed_state_of before) piece) (feed_state_of after) result → after.place ≡ place_after result after.ahead.phase
+    → after.frames ≡ before.frames → after.frame_ends ≡ before.frame_ends → AfterSteps (and_piece (feed_state_of before) piece) (feed_state_of after) result → after.place ≡ place_after result after.ahead.phase
     → HasGiven (extent_after extent result) after (and_fed result fed piece) given ticks
-given_steps extent before after fed given piece (Ok done) ticks h none kept frames marks did place =
-    given_on extent extent before after fed given piece [] [] ticks h none kept frames marks did.0 (λ is. refl) (subst (λ (p : EngineState). SaysAt extent p after.ahead [] []) (sym place) (refl, refl, did.1))
-given_steps extent before after fed given piece (Err faults.HeaderRefused) ticks h none kept frames marks did place = given_stopped extent before after fed given piece faults.HeaderRefused did.0 did.1 ticks h none kept frames marks did.2 did.3 place
-given_steps extent before after fed given piece (Err faults.Frame) ticks h none kept frames marks did place = given_stopped extent before after fed given piece faults.Frame did.0 did.1 ticks h none kept frames marks did.2 did.3 place
-given_steps extent before after fed given piece (Err (faults.Port fault)) ticks h none kept frames marks did place = given_stopped extent before after fed given piece (faults.Port fault) did.0 did.1 ticks h none kept frames marks did.2 did.3 place
-given_steps extent before after fed given piece (Err faults.Over) ticks h none kept frames marks did place = absurd did.3
-given_steps extent before after fed given piece (Err faults.SaslRefused) ticks h none kept frames marks did place = given_stopped extent before after fed given piece faults.SaslRefused did.0 did.1 ticks h none kept frames marks did.2 did.3 place
-given_steps extent before after fed given piece (Err faults.Memory) ticks h none kept frames marks did place = given_stopped extent before after fed given piece faults.Memory did.0 did.1 ticks h none kept frames marks did.2 did.3 place
+given_steps extent before after fed given piece (Ok done) ticks h none kept frames frame_ends did place =
+    given_on extent extent before after fed given piece [] [] ticks h none kept frames frame_ends did.0 (λ is. refl) (subst (λ (p : EngineState). SaysAt extent p after.ahead [] []) (sym place) (refl, refl, did.1))
+given_steps extent before after fed given piece (Err faults.HeaderRefused) ticks h none kept frames frame_ends did place = given_stopped extent before after fed given piece faults.HeaderRefused did.0 did.1 ticks h none kept frames frame_ends did.2 did.3 place
+given_steps extent before after fed given piece (Err faults.Frame) ticks h none kept frames frame_ends did place = given_stopped extent before after fed given piece faults.Frame did.0 did.1 ticks h none kept frames frame_ends did.2 did.3 place
+given_steps extent before after fed given piece (Err (faults.Port fault)) ticks h none kept frames frame_ends did place = given_stopped extent before after fed given piece (faults.Port fault) did.0 did.1 ticks h none kept frames frame_ends did.2 did.3 place
+given_steps extent before after fed given piece (Err faults.Over) ticks h none kept frames frame_ends did place = absurd did.3
+given_steps extent before after fed given piece (Err faults.SaslRefused) ticks h none kept frames frame_ends did place = given_stopped extent before after fed given piece faults.SaslRefused did.0 did.1 ticks h none kept frames frame_ends did.2 did.3 place
+given_steps extent before after fed given piece (Err faults.Memory) ticks h none kept frames frame_ends did place = given_stopped extent before after fed given piece faults.Memory did.0 did.1 ticks h none kept frames frame_ends did.2 did.3 place
 
 -- an engine whose octets ahead, those that wait, and frames are the same
 pub given_elsewhere : (extent extent_then : Extent) (before after : Connection) (fed fed_then given unkept : List ℕ) (ticks : ℕ) (h : HasGiven extent before fed given ticks) → after.ahead ≡ before.ahead → after.waiting ≡ before.waiting
-    → after.frames ≡ before.frames → after.marks ≡ before.marks → after.time_out ≡ before.time_out → IsAfter fed_then h.steps (and_unkept before.ahead unkept) → SaysAt extent_then after.place before.ahead unkept h.said → HasGiven extent_then after fed_then given ticks
-given_elsewhere extent extent_then before after fed fed_then given unkept ticks h ahead waiting frames marks time_out follows says = record {
+    → after.frames ≡ before.frames → after.frame_ends ≡ before.frame_ends → after.time_out ≡ before.time_out → IsAfter fed_then h.steps (and_unkept before.ahead unkept) → SaysAt extent_then after.place before.ahead unkept h.said → HasGiven extent_then after fed_then given ticks
+given_elsewhere extent extent_then before after fed fed_then given unkept ticks h ahead waiting frames frame_ends time_out follows says = record {
   steps = h.steps;
   unkept = unkept;
   said = h.said;
   put = h.put;
   follows = subst (λ (a : Ahead). IsAfter fed_then h.steps (and_unkept a unkept)) (sym ahead) follows;
   octets = ap (λ (t : List ℕ). given ++ t) waiting ∙ h.octets;
-  is_put = put_on before after ticks h.put frames marks (λ is. ap is_asked time_out ∙ is) h.is_put;
+  is_put = put_on before after ticks h.put frames frame_ends (λ is. ap is_asked time_out ∙ is) h.is_put;
   says = subst (λ (a : Ahead). SaysAt extent_then after.place a unkept h.said) (sym ahead) says;
   behind = behind_on before.ahead.phase after.ahead.phase [] before.frames after.frames (ap (λ (a : Ahead). a.phase) ahead) frames h.behind;
 }
 
 given_piece : (extent : Extent) (before after : Connection) (fed given piece : List ℕ) (result : Result Unit EngineFault) (ticks : ℕ) (h : HasGiven extent before fed given ticks) → h.said ≡ [] → h.unkept ≡ []
-    → after.frames ≡ before.frames → after.marks ≡ before.marks → AfterPiece (feed_state_of before) (feed_state_of after) piece result → after.place ≡ place_after result after.ahead.phase
+    → after.frames ≡ before.frames → after.frame_ends ≡ before.frame_ends → AfterPiece (feed_state_of before) (feed_state_of after) piece result → after.place ≡ place_after result after.ahead.phase
     → HasGiven (extent_after extent result) after (and_fed result fed piece) given ticks
-given_piece extent before after fed given piece result ticks h none kept frames marks (inl did) place = given_steps extent before after fed given piece result ticks h none kept frames marks did place
-given_piece extent before after fed given piece result ticks h none kept frames marks (inr (is, same)) place =
+given_piece extent before after fed given piece result ticks h none kept frames frame_ends (inl did) place = given_steps extent before after fed given piece result ticks h none kept frames frame_ends did place
+given_piece extent before after fed given piece result ticks h none kept frames frame_ends (inr (is, same)) place =
     let over : after.place ≡ Over Untold = place ∙ ap (λ (r : Result Unit EngineFault). place_after r after.ahead.phase) is in
     subst (λ (r : Result Unit EngineFault). HasGiven (extent_after extent r) after (and_fed r fed piece) given ticks) (sym is)
-    (given_elsewhere extent Part before after fed (fed ++ piece) given (h.unkept ++ piece) ticks h (ap (λ (t : FeedState). t.ahead) same) (ap (λ (t : FeedState). t.waiting) same) frames marks (ap (λ (t : FeedState). t.time_out) same)
+    (given_elsewhere extent Part before after fed (fed ++ piece) given (h.unkept ++ piece) ticks h (ap (λ (t : FeedState). t.ahead) same) (ap (λ (t : FeedState). t.waiting) same) frames frame_ends (ap (λ (t : FeedState). t.time_out) same)
     (piece_unkept fed h.unkept piece h.steps before.ahead h.follows)
     (subst (λ (p : EngineState). SaysAt Part p before.ahead (h.unkept ++ piece) h.said) (sym over) (inl none)))
 
@@ -205,15 +205,15 @@ given_closing extent before fed given piece ticks h place =
     given_elsewhere extent extent before before fed (fed ++ piece) given (h.unkept ++ piece) ticks h refl refl refl refl refl (piece_unkept fed h.unkept piece h.steps before.ahead h.follows)
     (subst (λ (p : EngineState). SaysAt extent p before.ahead (h.unkept ++ piece) h.said) (sym place) (subst (λ (p : EngineState). SaysAt extent p before.ahead h.unkept h.said) place h.says))
 
-pub given_at : (place : EngineState) (extent : Extent) (before after : Connection) (fed given piece : List ℕ) (ticks : ℕ) (result : Result Unit EngineFault) → before.place ≡ place → after.frames ≡ before.frames → after.marks ≡ before.marks
+pub given_at : (place : EngineState) (extent : Extent) (before after : Connection) (fed given piece : List ℕ) (ticks : ℕ) (result : Result Unit EngineFault) → before.place ≡ place → after.frames ≡ before.frames → after.frame_ends ≡ before.frame_ends
     → FedAt place before after piece result → HasGiven extent before fed given ticks → HasGiven (extent_after extent result) after (and_fed result fed piece) given ticks
-given_at Reading extent before after fed given piece ticks result at frames marks did h =
+given_at Reading extent before after fed given piece ticks result at frames frame_ends did h =
     let says = subst (λ (p : EngineState). SaysAt extent p before.ahead h.unkept h.said) at h.says in
-    given_piece extent before after fed given piece result ticks h says.0 says.1 frames marks did.0 did.1
-given_at Closing extent before after fed given piece ticks result at frames marks did h =
+    given_piece extent before after fed given piece result ticks h says.0 says.1 frames frame_ends did.0 did.1
+given_at Closing extent before after fed given piece ticks result at frames frame_ends did h =
     subst (λ (r : Result Unit EngineFault). HasGiven (extent_after extent r) after (and_fed r fed piece) given ticks) (sym did.0)
     (subst (λ (c : Connection). HasGiven extent c (fed ++ piece) given ticks) (sym did.1) (given_closing extent before fed given piece ticks h at))
-given_at (Over loss) extent before after fed given piece ticks result at frames marks did h =
+given_at (Over loss) extent before after fed given piece ticks result at frames frame_ends did h =
     subst (λ (r : Result Unit EngineFault). HasGiven (extent_after extent r) after (and_fed r fed piece) given ticks) (sym did.0) (subst (λ (c : Connection). HasGiven extent c fed given ticks) (sym did.1) h)
 
 -- ---- the other calls
@@ -240,7 +240,7 @@ says_given extent place (Some end) n ahead unkept said is = says_by extent place
 
 -- the first octets that waited were given
 pub given_first : (extent : Extent) (before after : Connection) (fed given : List ℕ) (n ticks : ℕ)
-    → after ≡ record before { waiting = drop n before.waiting; marks = marks_left before.marks n; place = place_given before.place before.marks.closed n; silence = silence_given before.silence n }
+    → after ≡ record before { waiting = drop n before.waiting; frame_ends = frame_ends_left before.frame_ends n; place = place_given before.place before.frame_ends.closed n; silence = silence_given before.silence n }
     → HasGiven extent before fed given ticks → HasGiven extent after fed (given ++ take n before.waiting) ticks
 given_first extent before after fed given n ticks is h = subst (λ (c : Connection). HasGiven extent c fed (given ++ take n before.waiting) ticks) (sym is) (record {
   steps = h.steps;
@@ -249,8 +249,8 @@ given_first extent before after fed given n ticks is h = subst (λ (c : Connecti
   put = h.put;
   follows = h.follows;
   octets = append_assoc given (take n before.waiting) (drop n before.waiting) ∙ ap (λ (t : List ℕ). given ++ t) (take-append-drop n before.waiting) ∙ h.octets;
-  is_put = put_left before.frames before.marks (is_asked before.time_out) ticks n h.put h.is_put;
-  says = says_given extent before.place before.marks.closed n before.ahead h.unkept h.said h.says;
+  is_put = put_left before.frames before.frame_ends (is_asked before.time_out) ticks n h.put h.is_put;
+  says = says_given extent before.place before.frame_ends.closed n before.ahead h.unkept h.said h.says;
   behind = h.behind;
 })
 
@@ -275,13 +275,13 @@ given_gone extent before after fed given ticks result did h = given_lost (is_los
 
 -- frames were taken
 pub put_refilled : (before after : Connection) (ticks : ℕ) (put : List ℕ) (filled : Refilled before after) → is_asked after.time_out ≡ is_asked before.time_out
-    → IsPut before.frames before.marks (is_asked before.time_out) ticks put → IsPut after.frames after.marks (is_asked after.time_out) ticks (put ++ concat filled.took.more)
+    → IsPut before.frames before.frame_ends (is_asked before.time_out) ticks put → IsPut after.frames after.frame_ends (is_asked after.time_out) ticks (put ++ concat filled.took.more)
 put_refilled before after ticks put filled asked is =
     let more = filled.took.more in
-    subst (λ (f : List (List ℕ)). IsPut f after.marks (is_asked after.time_out) ticks (put ++ concat more)) (sym filled.took.given)
-    (subst (λ (m : FrameEnds). IsPut (before.frames ++ more) m (is_asked after.time_out) ticks (put ++ concat more)) (sym filled.took.marked)
-    (subst (λ (a : Bool). IsPut (before.frames ++ more) (marks_after before.marks (length before.waiting) more) a ticks (put ++ concat more)) (sym asked)
-    (put_frames before.frames more before.marks (is_asked before.time_out) ticks (length before.waiting) put is)))
+    subst (λ (f : List (List ℕ)). IsPut f after.frame_ends (is_asked after.time_out) ticks (put ++ concat more)) (sym filled.took.given)
+    (subst (λ (m : FrameEnds). IsPut (before.frames ++ more) m (is_asked after.time_out) ticks (put ++ concat more)) (sym filled.took.ends_are)
+    (subst (λ (a : Bool). IsPut (before.frames ++ more) (frame_ends_after before.frame_ends (length before.waiting) more) a ticks (put ++ concat more)) (sym asked)
+    (put_frames before.frames more before.frame_ends (is_asked before.time_out) ticks (length before.waiting) put is)))
 
 pub is_open : (phase : Phase) → (phase ≡ Open) ⊎ (phase ≢ Open)
 is_open FirstHeader = inr (λ is. cc)
@@ -294,7 +294,7 @@ refilled_behind phase frames frames_then closed (inl is) behind = inl is
 refilled_behind phase frames frames_then closed (inr not_open) (inl is) = inl is
 refilled_behind phase frames frames_then closed (inr not_open) (inr none) = inr (closed not_open ∙ none)
 
-pub given_refilled : (extent : Extent) (before after : Connection) (fed given : List ℕ) (ticks : ℕ) → Refilled before after → after ≡ record before { frames = after.frames; waiting = after.waiting; is_idle = after.is_idle; marks = after.marks }
+pub given_refilled : (extent : Extent) (before after : Connection) (fed given : List ℕ) (ticks : ℕ) → Refilled before after → after ≡ record before { frames = after.frames; waiting = after.waiting; is_idle = after.is_idle; frame_ends = after.frame_ends }
     → HasGiven extent before fed given ticks → HasGiven extent after fed given ticks
 given_refilled extent before after fed given ticks filled same h =
     let more = filled.took.more in
@@ -331,11 +331,11 @@ unclosed : (closed : Option ℕ) → is_none closed ≡ true → is_some closed 
 unclosed None is = refl
 unclosed (Some end) is = absurd cc
 
-pub put_ticked : (c : Connection) (bears ticks : ℕ) (put : List ℕ) → patience_of c ≡ Some bears → IsPut c.frames c.marks (is_asked c.time_out) ticks put
-    → IsPut c.frames c.marks (is_asked c.time_out) (ticks + 1) (put ++ empty_frame)
+pub put_ticked : (c : Connection) (bears ticks : ℕ) (put : List ℕ) → patience_of c ≡ Some bears → IsPut c.frames c.frame_ends (is_asked c.time_out) ticks put
+    → IsPut c.frames c.frame_ends (is_asked c.time_out) (ticks + 1) (put ++ empty_frame)
 put_ticked c bears ticks put is h =
-    let why = bears_by (is_given c.marks.opened) (is_none c.marks.closed) (not (is_over c.place)) c.time_out bears is in
-    put_empty c.frames c.marks (is_asked c.time_out) ticks put (opened_given c.marks.opened why.0) (unclosed c.marks.closed why.1) why.2 h
+    let why = bears_by (is_given c.frame_ends.opened) (is_none c.frame_ends.closed) (not (is_over c.place)) c.time_out bears is in
+    put_empty c.frames c.frame_ends (is_asked c.time_out) ticks put (opened_given c.frame_ends.opened why.0) (unclosed c.frame_ends.closed why.1) why.2 h
 
 given_placed : (extent : Extent) (before : Connection) (fed given : List ℕ) (bears moment ticks : ℕ) → patience_of before ≡ Some bears → HasGiven extent before fed given ticks
     → HasGiven extent (ticked true moment before) fed given (ticks + 1)

@@ -5,7 +5,7 @@ use Rattle.std.proofs.lemmas.List.{append-nil}
 use Rattle.std.proofs.lemmas.List.Folds.{list_any-append}
 use Rattle.conn_engine.specs.declared.frame_ends.FrameEnds.{FrameEnds}
 use Rattle.conn_engine.specs.Lacing.{AFrame, AnEmpty, IsLaced, IsPut, Put, empties, frames_put, is_laced, may_rest, octets_put}
-use Rattle.conn_engine.specs.FrameEnds.{IsMarked, first_at, left_of, marks_after, marks_at, marks_left, no_marks}
+use Rattle.conn_engine.specs.FrameEnds.{AreFrameEnds, first_at, frame_ends_after, frame_ends_at, frame_ends_left, left_of, no_frame_ends}
 use Rattle.conn_engine.specs.Said.{is_open, is_close}
 use Rattle.conn_engine.specs.Silence.{empty_frame}
 
@@ -72,7 +72,7 @@ nothing_put (AnEmpty ∷ line) none stand = absurd (by (sym (ap (λ (t : List (L
 pub unlaced : (frames : List (List ℕ)) (count : ℕ) (octets : List ℕ) → frames ≡ [] → IsLaced frames count octets → octets ≡ []
 unlaced frames count octets none is = sym is.octets_are ∙ nothing_put is.line (is.frames_are ∙ none) is.stand
 
--- ---- the marks
+-- ---- the ends of the open and the close
 
 or_true : (b : Bool) → (b || true) ≡ true
 or_true true = refl
@@ -82,62 +82,62 @@ or_false : (b : Bool) → (b || false) ≡ b
 or_false true = refl
 or_false false = refl
 
-first_marked : (is : List ℕ → Bool) (mark : Option ℕ) (n : ℕ) (frames : List (List ℕ)) (frame : List ℕ) → is_some mark ≡ list_any is frames
-    → is_some (first_at is mark n frame) ≡ list_any is (frames ++ frame ∷ [])
-first_marked is (Some end) n frames frame marked = ap (λ (b : Bool). b || (is frame || false)) marked ∙ sym (list_any-append is frames (frame ∷ []))
-first_marked is None n frames frame marked = by (is frame) refl
+first_ends_are : (is : List ℕ → Bool) (end : Option ℕ) (n : ℕ) (frames : List (List ℕ)) (frame : List ℕ) → is_some end ≡ list_any is frames
+    → is_some (first_at is end n frame) ≡ list_any is (frames ++ frame ∷ [])
+first_ends_are is (Some end) n frames frame ends_are = ap (λ (b : Bool). b || (is frame || false)) ends_are ∙ sym (list_any-append is frames (frame ∷ []))
+first_ends_are is None n frames frame ends_are = by (is frame) refl
   where
     by : (b : Bool) → is frame ≡ b → is_some (if b then Some (n + length frame) else None) ≡ list_any is (frames ++ frame ∷ [])
     by true e = sym (list_any-append is frames (frame ∷ []) ∙ ap (λ (b : Bool). list_any is frames || (b || false)) e ∙ or_true (list_any is frames))
-    by false e = sym (list_any-append is frames (frame ∷ []) ∙ ap (λ (b : Bool). list_any is frames || (b || false)) e ∙ or_false (list_any is frames) ∙ sym marked)
+    by false e = sym (list_any-append is frames (frame ∷ []) ∙ ap (λ (b : Bool). list_any is frames || (b || false)) e ∙ or_false (list_any is frames) ∙ sym ends_are)
 
-marked_at : (marks : FrameEnds) (n : ℕ) (frames : List (List ℕ)) (frame : List ℕ) → IsMarked marks frames → IsMarked (marks_at marks n frame) (frames ++ frame ∷ [])
-marked_at marks n frames frame is = record { opened = first_marked is_open marks.opened n frames frame is.opened; closed = first_marked is_close marks.closed n frames frame is.closed }
+ends_are_at : (frame_ends : FrameEnds) (n : ℕ) (frames : List (List ℕ)) (frame : List ℕ) → AreFrameEnds frame_ends frames → AreFrameEnds (frame_ends_at frame_ends n frame) (frames ++ frame ∷ [])
+ends_are_at frame_ends n frames frame is = record { opened = first_ends_are is_open frame_ends.opened n frames frame is.opened; closed = first_ends_are is_close frame_ends.closed n frames frame is.closed }
 
-pub marked_after : (marks : FrameEnds) (n : ℕ) (frames more : List (List ℕ)) → IsMarked marks frames → IsMarked (marks_after marks n more) (frames ++ more)
-marked_after marks n frames [] is = subst (IsMarked marks) (sym (append-nil frames)) is
-marked_after marks n frames (frame ∷ more) is =
-    subst (λ (t : List (List ℕ)). IsMarked (marks_after (marks_at marks n frame) (n + length frame) more) t) (append_assoc frames (frame ∷ []) more)
-    (marked_after (marks_at marks n frame) (n + length frame) (frames ++ frame ∷ []) more (marked_at marks n frames frame is))
+pub ends_are_after : (frame_ends : FrameEnds) (n : ℕ) (frames more : List (List ℕ)) → AreFrameEnds frame_ends frames → AreFrameEnds (frame_ends_after frame_ends n more) (frames ++ more)
+ends_are_after frame_ends n frames [] is = subst (AreFrameEnds frame_ends) (sym (append-nil frames)) is
+ends_are_after frame_ends n frames (frame ∷ more) is =
+    subst (λ (t : List (List ℕ)). AreFrameEnds (frame_ends_after (frame_ends_at frame_ends n frame) (n + length frame) more) t) (append_assoc frames (frame ∷ []) more)
+    (ends_are_after (frame_ends_at frame_ends n frame) (n + length frame) (frames ++ frame ∷ []) more (ends_are_at frame_ends n frames frame is))
 
 left_some : (end : Option ℕ) (n : ℕ) → is_some (left_of end n) ≡ is_some end
 left_some None n = refl
 left_some (Some end) n = refl
 
-pub marked_left : (marks : FrameEnds) (n : ℕ) (frames : List (List ℕ)) → IsMarked marks frames → IsMarked (marks_left marks n) frames
-marked_left marks n frames is = record { opened = left_some marks.opened n ∙ is.opened; closed = left_some marks.closed n ∙ is.closed }
+pub ends_are_left : (frame_ends : FrameEnds) (n : ℕ) (frames : List (List ℕ)) → AreFrameEnds frame_ends frames → AreFrameEnds (frame_ends_left frame_ends n) frames
+ends_are_left frame_ends n frames is = record { opened = left_some frame_ends.opened n ∙ is.opened; closed = left_some frame_ends.closed n ∙ is.closed }
 
 -- ---- all of it
 
-pub put_none : (asked : Bool) → IsPut [] no_marks asked 0 []
+pub put_none : (asked : Bool) → IsPut [] no_frame_ends asked 0 []
 put_none asked = record {
   laced = record { line = []; octets_are = refl; frames_are = refl; count_is = refl; stand = refl };
-  marked = record { opened = refl; closed = refl };
+  ends_are = record { opened = refl; closed = refl };
   quiet = inl refl;
 }
 
-pub put_frames : (frames more : List (List ℕ)) (marks : FrameEnds) (asked : Bool) (ticks n : ℕ) (octets : List ℕ) → IsPut frames marks asked ticks octets
-    → IsPut (frames ++ more) (marks_after marks n more) asked ticks (octets ++ concat more)
-put_frames frames more marks asked ticks n octets is = record {
+pub put_frames : (frames more : List (List ℕ)) (frame_ends : FrameEnds) (asked : Bool) (ticks n : ℕ) (octets : List ℕ) → IsPut frames frame_ends asked ticks octets
+    → IsPut (frames ++ more) (frame_ends_after frame_ends n more) asked ticks (octets ++ concat more)
+put_frames frames more frame_ends asked ticks n octets is = record {
   laced = laced_frames frames more ticks octets is.laced;
-  marked = marked_after marks n frames more is.marked;
+  ends_are = ends_are_after frame_ends n frames more is.ends_are;
   quiet = is.quiet;
 }
 
-pub put_left : (frames : List (List ℕ)) (marks : FrameEnds) (asked : Bool) (ticks n : ℕ) (octets : List ℕ) → IsPut frames marks asked ticks octets → IsPut frames (marks_left marks n) asked ticks octets
-put_left frames marks asked ticks n octets is = record { laced = is.laced; marked = marked_left marks n frames is.marked; quiet = is.quiet }
+pub put_left : (frames : List (List ℕ)) (frame_ends : FrameEnds) (asked : Bool) (ticks n : ℕ) (octets : List ℕ) → IsPut frames frame_ends asked ticks octets → IsPut frames (frame_ends_left frame_ends n) asked ticks octets
+put_left frames frame_ends asked ticks n octets is = record { laced = is.laced; ends_are = ends_are_left frame_ends n frames is.ends_are; quiet = is.quiet }
 
-pub put_asked : (frames : List (List ℕ)) (marks : FrameEnds) (asked later : Bool) (ticks : ℕ) (octets : List ℕ) → (asked ≡ true → later ≡ true) → IsPut frames marks asked ticks octets → IsPut frames marks later ticks octets
-put_asked frames marks asked later ticks octets still is = record { laced = is.laced; marked = is.marked; quiet = by is.quiet }
+pub put_asked : (frames : List (List ℕ)) (frame_ends : FrameEnds) (asked later : Bool) (ticks : ℕ) (octets : List ℕ) → (asked ≡ true → later ≡ true) → IsPut frames frame_ends asked ticks octets → IsPut frames frame_ends later ticks octets
+put_asked frames frame_ends asked later ticks octets still is = record { laced = is.laced; ends_are = is.ends_are; quiet = by is.quiet }
   where
     by : (ticks ≡ 0) ⊎ (asked ≡ true) → (ticks ≡ 0) ⊎ (later ≡ true)
     by (inl none) = inl none
     by (inr ask) = inr (still ask)
 
-pub put_empty : (frames : List (List ℕ)) (marks : FrameEnds) (asked : Bool) (ticks : ℕ) (octets : List ℕ) → is_some marks.opened ≡ true → is_some marks.closed ≡ false → asked ≡ true
-    → IsPut frames marks asked ticks octets → IsPut frames marks asked (ticks + 1) (octets ++ empty_frame)
-put_empty frames marks asked ticks octets opened closed ask is = record {
-  laced = laced_empty frames ticks octets (both (list_any is_open frames) (not (list_any is_close frames)) (sym is.marked.opened ∙ opened) (ap not (sym is.marked.closed ∙ closed))) is.laced;
-  marked = is.marked;
+pub put_empty : (frames : List (List ℕ)) (frame_ends : FrameEnds) (asked : Bool) (ticks : ℕ) (octets : List ℕ) → is_some frame_ends.opened ≡ true → is_some frame_ends.closed ≡ false → asked ≡ true
+    → IsPut frames frame_ends asked ticks octets → IsPut frames frame_ends asked (ticks + 1) (octets ++ empty_frame)
+put_empty frames frame_ends asked ticks octets opened closed ask is = record {
+  laced = laced_empty frames ticks octets (both (list_any is_open frames) (not (list_any is_close frames)) (sym is.ends_are.opened ∙ opened) (ap not (sym is.ends_are.closed ∙ closed))) is.laced;
+  ends_are = is.ends_are;
   quiet = inr ask;
 }

@@ -15,23 +15,23 @@ left_of None n = None
 left_of (Some end) n = Some (end - n)
 
 -- neither was taken
-abbrev pub no_marks : FrameEnds
-no_marks = record { opened = None; closed = None }
+abbrev pub no_frame_ends : FrameEnds
+no_frame_ends = record { opened = None; closed = None }
 
 -- where a frame was put behind so many octets
-abbrev pub marks_at : FrameEnds → ℕ → List ℕ → FrameEnds
-marks_at marks before frame = record { opened = first_at is_open marks.opened before frame; closed = first_at is_close marks.closed before frame }
+abbrev pub frame_ends_at : FrameEnds → ℕ → List ℕ → FrameEnds
+frame_ends_at frame_ends before frame = record { opened = first_at is_open frame_ends.opened before frame; closed = first_at is_close frame_ends.closed before frame }
 
 -- where frames were put
-abbrev pub marks_after : FrameEnds → ℕ → List (List ℕ) → FrameEnds
-marks_after marks before [] = marks
-marks_after marks before (frame ∷ frames) = marks_after (marks_at marks before frame) (before + length frame) frames
+abbrev pub frame_ends_after : FrameEnds → ℕ → List (List ℕ) → FrameEnds
+frame_ends_after frame_ends before [] = frame_ends
+frame_ends_after frame_ends before (frame ∷ frames) = frame_ends_after (frame_ends_at frame_ends before frame) (before + length frame) frames
 
 -- where the first octets were given
-abbrev pub marks_left : FrameEnds → ℕ → FrameEnds
-marks_left marks n = record { opened = left_of marks.opened n; closed = left_of marks.closed n }
+abbrev pub frame_ends_left : FrameEnds → ℕ → FrameEnds
+frame_ends_left frame_ends n = record { opened = left_of frame_ends.opened n; closed = left_of frame_ends.closed n }
 
--- they are those of frames: an end is marked where there is such a frame, and nowhere else
-pub record IsMarked (marks : FrameEnds) (frames : List (List ℕ)) : Type 0 where
-  pub opened : is_some marks.opened ≡ list_any is_open frames
-  pub closed : is_some marks.closed ≡ list_any is_close frames
+-- they are those of frames: an end stands where there is such a frame, and nowhere else
+pub record AreFrameEnds (frame_ends : FrameEnds) (frames : List (List ℕ)) : Type 0 where
+  pub opened : is_some frame_ends.opened ≡ list_any is_open frames
+  pub closed : is_some frame_ends.closed ≡ list_any is_close frames

@@ -3,7 +3,7 @@
 use Rattle.std.specs.Prelude.{◌≡◌, ℕ, ◌+◌, ◌⊎◌, Bool, true, ◌&&◌, not, List, [], ◌∷◌, ◌++◌}
 use Rattle.std.specs.List.{list_any}
 use Rattle.conn_engine.specs.declared.frame_ends.FrameEnds.{FrameEnds}
-use Rattle.conn_engine.specs.FrameEnds.{IsMarked}
+use Rattle.conn_engine.specs.FrameEnds.{AreFrameEnds}
 use Rattle.conn_engine.specs.Said.{is_open, is_close}
 use Rattle.conn_engine.specs.Silence.{empty_frame, is_asked}
 
@@ -54,7 +54,7 @@ pub record IsLaced (frames : List (List ℕ)) (count : ℕ) (octets : List ℕ) 
   pub stand : is_laced line ≡ true
 
 -- what was put so far, where so many ticks placed an empty frame: none did unless the client asks for them
-pub record IsPut (frames : List (List ℕ)) (marks : FrameEnds) (asked : Bool) (ticks : ℕ) (octets : List ℕ) : Type 0 where
+pub record IsPut (frames : List (List ℕ)) (frame_ends : FrameEnds) (asked : Bool) (ticks : ℕ) (octets : List ℕ) : Type 0 where
   pub laced : IsLaced frames ticks octets
-  pub marked : IsMarked marks frames
+  pub ends_are : AreFrameEnds frame_ends frames
   pub quiet : (ticks ≡ 0) ⊎ (asked ≡ true)

@@ -30,7 +30,7 @@ pub record Connection : Type 0 where
   pub ahead : Ahead
   pub waiting : List ℕ
   pub is_idle : Bool
-  pub marks : FrameEnds
+  pub frame_ends : FrameEnds
   pub place : EngineState
   pub time_out : Option ℕ
   pub silence : Silence
@@ -120,6 +120,6 @@ pub record HasGiven (extent : Extent) (c : Connection) (fed given : List ℕ) (t
   pub put : List ℕ
   pub follows : IsAfter fed steps (and_unkept c.ahead unkept)
   pub octets : given ++ c.waiting ≡ (answers_to steps ++ said) ++ put
-  pub is_put : IsPut c.frames c.marks (is_asked c.time_out) ticks put
+  pub is_put : IsPut c.frames c.frame_ends (is_asked c.time_out) ticks put
   pub says : SaysAt extent c.place c.ahead unkept said
   pub behind : (c.ahead.phase ≡ Open) ⊎ (c.frames ≡ [])

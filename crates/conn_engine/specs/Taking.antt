@@ -12,24 +12,24 @@ use Rattle.conn_engine.specs.declared.engine_state.EngineState.{EngineState}
 use Rattle.conn_engine.specs.declared.engine_state.EngineState.TheVariants.{Reading, Closing, Over}
 use Rattle.conn_engine.specs.declared.frame_ends.FrameEnds.{FrameEnds}
 use Rattle.conn_engine.specs.Closing.{over_of}
-use Rattle.conn_engine.specs.FrameEnds.{marks_at, marks_after}
+use Rattle.conn_engine.specs.FrameEnds.{frame_ends_at, frame_ends_after}
 use Rattle.conn_engine.specs.Feeding.{ItemFault}
 use Rattle.conn_engine.specs.Serving.{Connection}
 
 -- a port gave frames more, which stand behind what waited, and this is where the first open and the first close end
-pub record TookFrames (frames frames_then : List (List ℕ)) (waiting waiting_then : List ℕ) (marks marks_then : FrameEnds) : Type 0 where
+pub record TookFrames (frames frames_then : List (List ℕ)) (waiting waiting_then : List ℕ) (frame_ends frame_ends_then : FrameEnds) : Type 0 where
   pub more : List (List ℕ)
   pub given : frames_then ≡ frames ++ more
   pub put : waiting_then ≡ waiting ++ concat more
-  pub marked : marks_then ≡ marks_after marks (length waiting) more
+  pub ends_are : frame_ends_then ≡ frame_ends_after frame_ends (length waiting) more
 
 -- a port was asked for a frame from a record's number on: it gave one, and the next is asked for from a higher number,
 -- or none
-abbrev pub TookFrame : (frames frames_then : List (List ℕ)) (waiting waiting_then : List ℕ) (marks marks_then : FrameEnds) (next next_then : ℕ) → Bool → Type 0
-TookFrame frames frames_then waiting waiting_then marks marks_then next next_then true =
-    (frame : List ℕ) × (frames_then ≡ frames ++ frame ∷ []) × (waiting_then ≡ waiting ++ frame) × (marks_then ≡ marks_at marks (length waiting) frame) × (next < next_then) × (next_then < 2 ^ 64)
-TookFrame frames frames_then waiting waiting_then marks marks_then next next_then false =
-    (frames_then ≡ frames) × (waiting_then ≡ waiting) × (marks_then ≡ marks) × (next_then ≡ next)
+abbrev pub TookFrame : (frames frames_then : List (List ℕ)) (waiting waiting_then : List ℕ) (frame_ends frame_ends_then : FrameEnds) (next next_then : ℕ) → Bool → Type 0
+TookFrame frames frames_then waiting waiting_then frame_ends frame_ends_then next next_then true =
+    (frame : List ℕ) × (frames_then ≡ frames ++ frame ∷ []) × (waiting_then ≡ waiting ++ frame) × (frame_ends_then ≡ frame_ends_at frame_ends (length waiting) frame) × (next < next_then) × (next_then < 2 ^ 64)
+TookFrame frames frames_then waiting waiting_then frame_ends frame_ends_then next next_then false =
+    (frames_then ≡ frames) × (waiting_then ≡ waiting) × (frame_ends_then ≡ frame_ends) × (next_then ≡ next)
 
 -- enough octets wait, or the port may have had no frame more when it was asked
 abbrev pub IsRefilled : Bool → List ℕ → Type 0
@@ -37,7 +37,7 @@ IsRefilled is_idle waiting = (ENOUGH_OCTETS ≤ length waiting) ⊎ (is_idle ≡
 
 -- what taking frames changed of a connection: before the AMQP header was accepted, nothing
 pub record Refilled (before after : Connection) : Type 0 where
-  pub took : TookFrames before.frames after.frames before.waiting after.waiting before.marks after.marks
+  pub took : TookFrames before.frames after.frames before.waiting after.waiting before.frame_ends after.frame_ends
   pub closed : before.ahead.phase ≢ Open → after.frames ≡ before.frames
 
 -- the router is still to be told of a loss: it was told that the connection is open, and of no loss

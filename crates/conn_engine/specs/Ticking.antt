@@ -11,7 +11,7 @@ is_given (Some left) = nat_eq left 0
 
 -- the silence that the client bears, where an open was given, no close was taken, and the engine is not over
 abbrev pub patience_of : Connection → Option ℕ
-patience_of c = if is_given c.marks.opened && is_none c.marks.closed && not (is_over c.place) then patience c.time_out else None
+patience_of c = if is_given c.frame_ends.opened && is_none c.frame_ends.closed && not (is_over c.place) then patience c.time_out else None
 
 -- nothing waits
 abbrev pub is_clear : List ℕ → Bool

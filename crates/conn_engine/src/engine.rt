@@ -4,7 +4,7 @@ ghost use Rattle.std.specs.Prelude.{◌≡◌, ◌≤◌, ◌++◌, ℕ, List, [
 ghost use Rattle.stream_reading.specs.declared.step.Phase.TheVariants.{FirstHeader, Open};
 ghost use Rattle.conn_engine.specs.declared.engine_state.EngineState.TheVariants.{Reading};
 ghost use Rattle.conn_engine.specs.Closing.{is_over, place_given};
-ghost use Rattle.conn_engine.specs.FrameEnds.{no_marks, marks_left};
+ghost use Rattle.conn_engine.specs.FrameEnds.{frame_ends_left, no_frame_ends};
 ghost use Rattle.conn_engine.specs.Silence.{no_silence, silence_given};
 ghost use Rattle.conn_engine.specs.Serving.{Extent, HasFed, HasGiven};
 ghost use Rattle.conn_engine.specs.Feeding.{FedAt, and_fed, extent_after, place_after};
@@ -45,7 +45,7 @@ pub struct Engine<P: Port> {
     /// The number of the record from which on the router is asked for its next frame.
     next: u64,
     /// Where the router's open and its close end among the octets that wait.
-    marks: FrameEnds,
+    frame_ends: FrameEnds,
     place: EngineState,
     /// The idle-time-out of the client's open, in milliseconds, once it came; 0 where it has none.
     time_out: Option<u32>,
@@ -58,7 +58,7 @@ impl<P: Port> Model for Engine<P> {
 
     ghost Value = { Connection };
 
-    ghost view = { λ e. record { number = P.connection e.port; items = P.items e.port; frames = P.frames e.port; ahead = e.reader; waiting = e.output; is_idle = P.is_idle e.port; marks = e.marks; place = e.place; time_out = e.time_out; silence = e.silence } };
+    ghost view = { λ e. record { number = P.connection e.port; items = P.items e.port; frames = P.frames e.port; ahead = e.reader; waiting = e.output; is_idle = P.is_idle e.port; frame_ends = e.frame_ends; place = e.place; time_out = e.time_out; silence = e.silence } };
 
     ghost invariant = { λ e. e.connection ≡ P.connection e.port };
 }
@@ -67,7 +67,7 @@ impl<P: Port> Engine<P> {
     /// The engine of the connection of this number, of which no octet has come yet. The port is of the same connection.
     pub fn new(alloc: Global, connection: u32, port: P) -> Engine<P>
         requires { connection ≡ P.connection port }
-        ensures value { result ≡ record { number = connection; items = P.items port; frames = P.frames port; ahead = record { phase = FirstHeader; octets = [] }; waiting = []; is_idle = P.is_idle port; marks = no_marks; place = Reading; time_out = None; silence = no_silence } }
+        ensures value { result ≡ record { number = connection; items = P.items port; frames = P.frames port; ahead = record { phase = FirstHeader; octets = [] }; waiting = []; is_idle = P.is_idle port; frame_ends = no_frame_ends; place = Reading; time_out = None; silence = no_silence } }
         ensures fed { P.items port ≡ [] → HasFed result [] }
         ensures given { (extent : Extent) → P.frames port ≡ [] → HasGiven extent result [] [] 0 }
     {
@@ -77,7 +77,7 @@ impl<P: Port> Engine<P> {
             reader: StreamReader::new(alloc),
             output: Output::new(alloc),
             next: 0,
-            marks: FrameEnds::new(),
+            frame_ends: FrameEnds::new(),
             place: EngineState::Reading,
             time_out: None,
             silence: Silence::new(),
@@ -93,7 +93,7 @@ impl<P: Port> Engine<P> {
         ensures did { FedAt self.old.place self.old self.new piece.now result }
         ensures number { self.new.number ≡ self.old.number }
         ensures frames { self.new.frames ≡ self.old.frames }
-        ensures marks { self.new.marks ≡ self.old.marks }
+        ensures frame_ends { self.new.frame_ends ≡ self.old.frame_ends }
         ensures silence { self.new.silence ≡ self.old.silence }
         // Whatever was fed before, now this piece was fed too.
         ensures fed { (fed : List ℕ) → HasFed self.old fed → HasFed self.new (and_fed result fed piece.now) }
@@ -113,7 +113,7 @@ impl<P: Port> Engine<P> {
         ensures did { FedAt Reading self.old self.new piece.now result }
         ensures number { self.new.number ≡ self.old.number }
         ensures frames { self.new.frames ≡ self.old.frames }
-        ensures marks { self.new.marks ≡ self.old.marks }
+        ensures frame_ends { self.new.frame_ends ≡ self.old.frame_ends }
         ensures silence { self.new.silence ≡ self.old.silence }
     {
         let taken = take_piece(
@@ -138,7 +138,7 @@ impl<P: Port> Engine<P> {
         ensures took { Refilled self.old self.new }
         // Where the connection is open, the port was asked until it had none or enough octets wait.
         ensures all { OnOk result (self.old.ahead.phase ≡ Open → IsRefilled self.new.is_idle self.new.waiting) }
-        ensures same { self.new ≡ record self.old { frames = self.new.frames; waiting = self.new.waiting; is_idle = self.new.is_idle; marks = self.new.marks } }
+        ensures same { self.new ≡ record self.old { frames = self.new.frames; waiting = self.new.waiting; is_idle = self.new.is_idle; frame_ends = self.new.frame_ends } }
         // Whatever was fed and given before, is so still.
         ensures fed { (fed : List ℕ) → HasFed self.old fed → HasFed self.new fed }
         ensures given { (extent : Extent) (fed given : List ℕ) (ticks : ℕ) → HasGiven extent self.old fed given ticks → HasGiven extent self.new fed given ticks }
@@ -151,7 +151,7 @@ impl<P: Port> Engine<P> {
         ensures took { Refilled self.old self.new }
         // Where the connection is open, the port was asked until it had none or enough octets wait.
         ensures all { OnOk result (self.old.ahead.phase ≡ Open → IsRefilled self.new.is_idle self.new.waiting) }
-        ensures same { self.new ≡ record self.old { frames = self.new.frames; waiting = self.new.waiting; is_idle = self.new.is_idle; marks = self.new.marks } }
+        ensures same { self.new ≡ record self.old { frames = self.new.frames; waiting = self.new.waiting; is_idle = self.new.is_idle; frame_ends = self.new.frame_ends } }
     {
         if self.reader.phase() != Phase::Open {
             return Ok(());
@@ -160,7 +160,7 @@ impl<P: Port> Engine<P> {
             &mut self.port,
             &mut self.output,
             &mut self.next,
-            &mut self.marks,
+            &mut self.frame_ends,
         )
     }
 
@@ -175,15 +175,15 @@ impl<P: Port> Engine<P> {
     #[tactic(auto, using(crate::proofs::FedOn::fed_first, crate::proofs::GivenOn::given_first))]
     pub fn gave(&mut self, n: usize)
         requires { n ≤ length self.old.waiting }
-        ensures value { self.new ≡ record self.old { waiting = drop n self.old.waiting; marks = marks_left self.old.marks n; place = place_given self.old.place self.old.marks.closed n; silence = silence_given self.old.silence n } }
+        ensures value { self.new ≡ record self.old { waiting = drop n self.old.waiting; frame_ends = frame_ends_left self.old.frame_ends n; place = place_given self.old.place self.old.frame_ends.closed n; silence = silence_given self.old.silence n } }
         // Whatever was fed and given before, now these octets were given too.
         ensures fed { (fed : List ℕ) → HasFed self.old fed → HasFed self.new fed }
         ensures given { (extent : Extent) (fed given : List ℕ) (ticks : ℕ) → HasGiven extent self.old fed given ticks
             → HasGiven extent self.new fed (given ++ take n self.old.waiting) ticks }
     {
         self.output.gave(n);
-        self.place = place_given(self.place, self.marks.closed, n);
-        self.marks = self.marks.left(n);
+        self.place = place_given(self.place, self.frame_ends.closed, n);
+        self.frame_ends = self.frame_ends.left(n);
         self.silence = self.silence.given(n);
     }
 
@@ -221,7 +221,10 @@ impl<P: Port> Engine<P> {
     fn patience(&self) -> Option<u64>
         ensures { result ≡ patience_of self.now }
     {
-        if self.marks.is_open_given() && self.marks.closed.is_none() && !self.place.is_over() {
+        if self.frame_ends.is_open_given()
+            && self.frame_ends.closed.is_none()
+            && !self.place.is_over()
+        {
             patience(self.time_out)
         } else {
             None

@@ -1,7 +1,7 @@
 //! Where the router's open and its close end among the octets that wait.
 
 ghost use Rattle.std.specs.Prelude.{◌≡◌, ◌≤◌, drop, length};
-ghost use Rattle.conn_engine.specs.FrameEnds.{first_at, left_of, marks_at, marks_left, no_marks};
+ghost use Rattle.conn_engine.specs.FrameEnds.{first_at, frame_ends_at, frame_ends_left, left_of, no_frame_ends};
 ghost use Rattle.conn_engine.specs.Said.{is_open, is_close};
 ghost use Rattle.conn_engine.specs.Ticking.{is_given};
 
@@ -18,7 +18,7 @@ pub(crate) struct FrameEnds {
 impl FrameEnds {
     /// Neither was taken.
     pub(crate) const fn new() -> FrameEnds
-        ensures { result ≡ no_marks }
+        ensures { result ≡ no_frame_ends }
     {
         FrameEnds {
             opened: None,
@@ -29,7 +29,7 @@ impl FrameEnds {
     /// Where the octets that wait have a frame behind the first ones.
     pub(crate) fn with_frame(self, waiting: &[u8], before: usize) -> FrameEnds
         requires { before ≤ length waiting.now }
-        ensures { result ≡ marks_at self before (drop before waiting.now) }
+        ensures { result ≡ frame_ends_at self before (drop before waiting.now) }
     {
         FrameEnds {
             opened: opened_at(self.opened, waiting, before),
@@ -39,7 +39,7 @@ impl FrameEnds {
 
     /// Where the first `n` octets were given.
     pub(crate) fn left(self, n: usize) -> FrameEnds
-        ensures { result ≡ marks_left self n }
+        ensures { result ≡ frame_ends_left self n }
     {
         FrameEnds {
             opened: left_of(self.opened, n),

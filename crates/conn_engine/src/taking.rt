@@ -21,15 +21,15 @@ pub(crate) fn take_frames<P: Port>(
     port: &mut P,
     output: &mut Output,
     next: &mut u64,
-    marks: &mut FrameEnds,
+    frame_ends: &mut FrameEnds,
 ) -> Result<(), AllocError>
-    ensures took { TookFrames (P.frames port.old) (P.frames port.new) output.old output.new marks.old marks.new }
+    ensures took { TookFrames (P.frames port.old) (P.frames port.new) output.old output.new frame_ends.old frame_ends.new }
     ensures all { OnOk result (IsRefilled (P.is_idle port.new) output.new) }
     ensures items { P.items port.new ≡ P.items port.old }
     ensures connection { P.connection port.new ≡ P.connection port.old }
 {
     port.hold();
-    let taken = take_all_frames(port, output, next, marks);
+    let taken = take_all_frames(port, output, next, frame_ends);
     port.rest();
     taken
 }
@@ -43,15 +43,15 @@ fn take_all_frames<P: Port>(
     port: &mut P,
     output: &mut Output,
     next: &mut u64,
-    marks: &mut FrameEnds,
+    frame_ends: &mut FrameEnds,
 ) -> Result<(), AllocError>
-    ensures took { TookFrames (P.frames port.old) (P.frames port.new) output.old output.new marks.old marks.new }
+    ensures took { TookFrames (P.frames port.old) (P.frames port.new) output.old output.new frame_ends.old frame_ends.new }
     ensures all { OnOk result (IsRefilled (P.is_idle port.new) output.new) }
     ensures items { P.items port.new ≡ P.items port.old }
     ensures connection { P.connection port.new ≡ P.connection port.old }
 {
     while output.waiting().len() < ENOUGH_OCTETS {
-        match take_frame(port, output, next, marks) {
+        match take_frame(port, output, next, frame_ends) {
             Ok(true) => {}
             Ok(false) => return Ok(()),
             Err(fault) => return Err(fault),
@@ -65,11 +65,11 @@ fn take_frame<P: Port>(
     port: &mut P,
     output: &mut Output,
     next: &mut u64,
-    marks: &mut FrameEnds,
+    frame_ends: &mut FrameEnds,
 ) -> Result<bool, AllocError>
-    ensures ok { IfOk result (TookFrame (P.frames port.old) (P.frames port.new) output.old output.new marks.old marks.new next.old next.new) }
+    ensures ok { IfOk result (TookFrame (P.frames port.old) (P.frames port.new) output.old output.new frame_ends.old frame_ends.new next.old next.new) }
     ensures none { IfOk result (λ taken. taken ≡ false → P.is_idle port.new ≡ true) }
-    ensures err { OnErr result ((P.frames port.new ≡ P.frames port.old) × (output.new ≡ output.old) × (marks.new ≡ marks.old) × (next.new ≡ next.old)) }
+    ensures err { OnErr result ((P.frames port.new ≡ P.frames port.old) × (output.new ≡ output.old) × (frame_ends.new ≡ frame_ends.old) × (next.new ≡ next.old)) }
     ensures items { P.items port.new ≡ P.items port.old }
     ensures connection { P.connection port.new ≡ P.connection port.old }
 {
@@ -77,7 +77,7 @@ fn take_frame<P: Port>(
     match output.take_from(port, *next) {
         Ok(Some(number)) => {
             *next = number + 1;
-            *marks = marks.with_frame(output.waiting(), before);
+            *frame_ends = frame_ends.with_frame(output.waiting(), before);
             Ok(true)
         }
         Ok(None) => Ok(false),

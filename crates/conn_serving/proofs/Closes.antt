@@ -30,8 +30,8 @@ over_by Closing true ahead frames close is = inr close
 over_by (Over loss) true ahead frames close is = is
 
 pub over_given : (place : EngineState) (close : Option ℕ) (n : ℕ) (ahead : Ahead) (frames : List (List ℕ)) → is_some close ≡ list_any is_close frames → IsOverFor place ahead frames → IsOverFor (place_given place close n) ahead frames
-over_given place None n ahead frames marked is = is
-over_given place (Some end) n ahead frames marked is = over_by place (nat_le end n) ahead frames (sym marked) is
+over_given place None n ahead frames ends_are is = is
+over_given place (Some end) n ahead frames ends_are is = over_by place (nat_le end n) ahead frames (sym ends_are) is
 
 reading_by : (place : EngineState) (b : Bool) → (if b then over_of place else place) ≡ Reading → place ≡ Reading
 reading_by place false is = is

@@ -7,7 +7,7 @@ use Rattle.conn_engine.specs.declared.fault.EngineFault.{EngineFault}
 use Rattle.conn_engine.specs.declared.engine_state.EngineState.{EngineState}
 use Rattle.conn_engine.specs.declared.engine_state.EngineState.TheVariants.{Reading, Closing, Over}
 use Rattle.conn_engine.specs.Closing.{is_over, place_given}
-use Rattle.conn_engine.specs.FrameEnds.{marks_left}
+use Rattle.conn_engine.specs.FrameEnds.{frame_ends_left}
 use Rattle.conn_engine.specs.Silence.{silence_given}
 use Rattle.conn_engine.specs.Serving.{Connection}
 use Rattle.conn_engine.specs.Feeding.{AfterPiece, AfterSteps, FedAt, FeedState, and_piece, feed_state_of}
@@ -56,7 +56,7 @@ stands_behind before after framed framed_then taken waiting said all start same 
 
 -- frames were taken of its port
 pub noted_refilled : (before after : Connection) (script later : Script) (octets taken : List ℕ) (count : ℕ) → Refilled before after
-    → after ≡ record before { frames = after.frames; waiting = after.waiting; is_idle = after.is_idle; marks = after.marks } → count ≡ length after.waiting - length before.waiting
+    → after ≡ record before { frames = after.frames; waiting = after.waiting; is_idle = after.is_idle; frame_ends = after.frame_ends } → count ≡ length after.waiting - length before.waiting
     → ((framed taken waiting more : List ℕ) → length more ≡ count → StandsFor script framed taken waiting → StandsFor later (framed ++ more) taken (waiting ++ more))
     → IsNoted before script octets taken → IsNoted after later octets taken
 noted_refilled before after script later octets taken count filled same is notes h =
@@ -83,18 +83,18 @@ noted_ticked moment before after script later octets taken start result did from
 
 -- it was fed a piece
 pub noted_fed : (before after : Connection) (script later : Script) (octets piece taken : List ℕ) (start : ℕ) (result : Result Unit EngineFault) → is_over before.place ≡ false → FedAt before.place before after piece result
-    → after.frames ≡ before.frames → after.marks ≡ before.marks → stop_of result ≡ None → start ≡ length before.waiting → NotesOwn script later (drop start after.waiting)
+    → after.frames ≡ before.frames → after.frame_ends ≡ before.frame_ends → stop_of result ≡ None → start ≡ length before.waiting → NotesOwn script later (drop start after.waiting)
     → IsNoted before script octets taken → IsNoted after later (octets ++ piece) taken
-noted_fed before after script later octets piece taken start result going did frames marks goes from notes h =
+noted_fed before after script later octets piece taken start result going did frames frame_ends goes from notes h =
     let put = fed_put before.place before after piece result did in
     record {
-      serving = serving_fed before after octets piece taken result going did frames marks goes h.serving;
+      serving = serving_fed before after octets piece taken result going did frames frame_ends goes h.serving;
       stands = stands_behind script later (concat before.frames) (concat after.frames) taken before.waiting put.0 after.waiting start (ap concat frames) put.1 from notes h.stands;
     }
 
 -- the first octets that waited were given
 pub noted_given : (before after : Connection) (script later : Script) (octets taken : List ℕ) (n : ℕ)
-    → after ≡ record before { waiting = drop n before.waiting; marks = marks_left before.marks n; place = place_given before.place before.marks.closed n; silence = silence_given before.silence n }
+    → after ≡ record before { waiting = drop n before.waiting; frame_ends = frame_ends_left before.frame_ends n; place = place_given before.place before.frame_ends.closed n; silence = silence_given before.silence n }
     → n ≤ length before.waiting
     → ((framed taken waiting : List ℕ) → n ≤ length waiting → StandsFor script framed taken waiting → StandsFor later framed (taken ++ take n waiting) (drop n waiting))
     → IsNoted before script octets taken → IsNoted after later octets (taken ++ take n before.waiting)

@@ -9,7 +9,7 @@ use Rattle.conn_engine.specs.declared.engine_state.Loss.TheVariants.{Untold, Tol
 use Rattle.conn_engine.specs.declared.engine_state.EngineState.{EngineState}
 use Rattle.conn_engine.specs.declared.engine_state.EngineState.TheVariants.{Reading, Closing, Over}
 use Rattle.conn_engine.specs.Closing.{is_over}
-use Rattle.conn_engine.specs.FrameEnds.{no_marks}
+use Rattle.conn_engine.specs.FrameEnds.{no_frame_ends}
 use Rattle.conn_engine.specs.Silence.{is_asked, no_silence}
 use Rattle.conn_engine.specs.Device.{KeepsTold, TellsMore}
 use Rattle.conn_engine.specs.Lacing.{IsLaced}
@@ -27,7 +27,7 @@ use Rattle.conn_serving.proofs.Laced.{stands_taken}
 use Rattle.conn_serving.proofs.Serves.{serving_gone, serving_new}
 
 pub open_new : {G : Type 0} (Delivered Took : G → List ℕ → Type 0) (gate : G) (number : ℕ) (idle : Bool) (items : List What) (frames : List (List ℕ)) (e : Connection) (script : Script)
-    → e ≡ record { number = number; items = items; frames = frames; ahead = record { phase = FirstHeader; octets = [] }; waiting = []; is_idle = idle; marks = no_marks; place = Reading; time_out = None; silence = no_silence }
+    → e ≡ record { number = number; items = items; frames = frames; ahead = record { phase = FirstHeader; octets = [] }; waiting = []; is_idle = idle; frame_ends = no_frame_ends; place = Reading; time_out = None; silence = no_silence }
     → items ≡ [] → frames ≡ [] → StandsFor script [] [] [] → Delivered gate [] → Took gate [] → IsOpen Delivered Took gate e script
 open_new Delivered Took gate number idle items frames e script is no_items no_frames stands delivered took = record {
   octets = [];

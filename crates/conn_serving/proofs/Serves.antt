@@ -16,7 +16,7 @@ use Rattle.conn_engine.specs.declared.engine_state.EngineState.{EngineState}
 use Rattle.conn_engine.specs.declared.engine_state.EngineState.TheVariants.{Reading, Closing, Over}
 use Rattle.conn_engine.specs.Closing.{is_over, place_given}
 use Rattle.conn_engine.specs.Lacing.{IsPut}
-use Rattle.conn_engine.specs.FrameEnds.{marks_left, no_marks}
+use Rattle.conn_engine.specs.FrameEnds.{frame_ends_left, no_frame_ends}
 use Rattle.conn_engine.specs.Silence.{empty_frame, is_asked, no_silence, silence_given}
 use Rattle.conn_engine.specs.Serving.{Connection}
 use Rattle.conn_engine.specs.Feeding.{AfterPiece, AfterSteps, FedAt, StopsFor, Went, and_piece, items_at_fault, place_after, place_at_fault, feed_state_of}
@@ -33,7 +33,7 @@ use Rattle.conn_serving.proofs.Closes.{closing_given, over_given, over_on, readi
 -- ---- a new one
 
 abbrev fresh : ℕ → Bool → Connection
-fresh number idle = record { number = number; items = []; frames = []; ahead = record { phase = FirstHeader; octets = [] }; waiting = []; is_idle = idle; marks = no_marks; place = Reading; time_out = None; silence = no_silence }
+fresh number idle = record { number = number; items = []; frames = []; ahead = record { phase = FirstHeader; octets = [] }; waiting = []; is_idle = idle; frame_ends = no_frame_ends; place = Reading; time_out = None; silence = no_silence }
 
 fresh_serves : (number : ℕ) (idle : Bool) → IsServing (fresh number idle) [] []
 fresh_serves number idle = record {
@@ -51,17 +51,17 @@ fresh_serves number idle = record {
 }
 
 pub serving_new : (number : ℕ) (idle : Bool) (items : List What) (frames : List (List ℕ)) (e : Connection)
-    → e ≡ record { number = number; items = items; frames = frames; ahead = record { phase = FirstHeader; octets = [] }; waiting = []; is_idle = idle; marks = no_marks; place = Reading; time_out = None; silence = no_silence }
+    → e ≡ record { number = number; items = items; frames = frames; ahead = record { phase = FirstHeader; octets = [] }; waiting = []; is_idle = idle; frame_ends = no_frame_ends; place = Reading; time_out = None; silence = no_silence }
     → items ≡ [] → frames ≡ [] → IsServing e [] []
 serving_new number idle items frames e is no_items no_frames =
     let same : e ≡ fresh number idle
-    = is ∙ ap (λ (t : List What). record { number = number; items = t; frames = frames; ahead = record { phase = FirstHeader; octets = [] }; waiting = []; is_idle = idle; marks = no_marks; place = Reading; time_out = None; silence = no_silence }) no_items
-    ∙ ap (λ (t : List (List ℕ)). record { number = number; items = []; frames = t; ahead = record { phase = FirstHeader; octets = [] }; waiting = []; is_idle = idle; marks = no_marks; place = Reading; time_out = None; silence = no_silence }) no_frames in
+    = is ∙ ap (λ (t : List What). record { number = number; items = t; frames = frames; ahead = record { phase = FirstHeader; octets = [] }; waiting = []; is_idle = idle; frame_ends = no_frame_ends; place = Reading; time_out = None; silence = no_silence }) no_items
+    ∙ ap (λ (t : List (List ℕ)). record { number = number; items = []; frames = t; ahead = record { phase = FirstHeader; octets = [] }; waiting = []; is_idle = idle; frame_ends = no_frame_ends; place = Reading; time_out = None; silence = no_silence }) no_frames in
     subst (λ (c : Connection). IsServing c [] []) (sym same) (fresh_serves number idle)
 
 -- ---- frames were taken of its port
 
-pub serving_refilled : (before after : Connection) (octets taken : List ℕ) → Refilled before after → after ≡ record before { frames = after.frames; waiting = after.waiting; is_idle = after.is_idle; marks = after.marks }
+pub serving_refilled : (before after : Connection) (octets taken : List ℕ) → Refilled before after → after ≡ record before { frames = after.frames; waiting = after.waiting; is_idle = after.is_idle; frame_ends = after.frame_ends }
     → IsServing before octets taken → IsServing after octets taken
 serving_refilled before after octets taken filled same h =
     let more = filled.took.more in
@@ -78,7 +78,7 @@ serving_refilled before after octets taken filled same h =
           ∙ append_assoc h.answers h.put (concat more);
       ticks = h.ticks;
       is_put =
-          subst (λ (a : Bool). IsPut after.frames after.marks a h.ticks (h.put ++ concat more)) asked (put_refilled before after h.ticks h.put filled asked h.is_put);
+          subst (λ (a : Bool). IsPut after.frames after.frame_ends a h.ticks (h.put ++ concat more)) asked (put_refilled before after h.ticks h.put filled asked h.is_put);
       time_out = h.time_out;
       behind = refilled_behind before.ahead.phase before.frames after.frames filled.closed (is_open before.ahead.phase) h.behind;
       over = subst (λ (t : List (List ℕ)). IsOverFor before.place before.ahead t) all (over_on before.place before.ahead before.frames more h.over);
@@ -126,20 +126,20 @@ serving_ticked moment before after octets taken result did h = ticked_serves (pa
 -- ---- the first octets that waited were given
 
 pub serving_given : (before after : Connection) (octets taken : List ℕ) (n : ℕ)
-    → after ≡ record before { waiting = drop n before.waiting; marks = marks_left before.marks n; place = place_given before.place before.marks.closed n; silence = silence_given before.silence n }
+    → after ≡ record before { waiting = drop n before.waiting; frame_ends = frame_ends_left before.frame_ends n; place = place_given before.place before.frame_ends.closed n; silence = silence_given before.silence n }
     → IsServing before octets taken → IsServing after octets (taken ++ take n before.waiting)
 serving_given before after octets taken n is h = subst (λ (c : Connection). IsServing c octets (taken ++ take n before.waiting)) (sym is) (record {
   answers = h.answers;
   stream = h.stream;
-  reads = λ reading. h.reads (reading_given before.place before.marks.closed n reading);
-  closes = λ closing. h.closes (closing_given before.place before.marks.closed n closing);
+  reads = λ reading. h.reads (reading_given before.place before.frame_ends.closed n reading);
+  closes = λ closing. h.closes (closing_given before.place before.frame_ends.closed n closing);
   given = append_assoc taken (take n before.waiting) (drop n before.waiting) ∙ ap (λ (t : List ℕ). taken ++ t) (take-append-drop n before.waiting) ∙ h.given;
   put = h.put;
   ticks = h.ticks;
-  is_put = put_left before.frames before.marks (is_asked before.time_out) h.ticks n h.put h.is_put;
+  is_put = put_left before.frames before.frame_ends (is_asked before.time_out) h.ticks n h.put h.is_put;
   time_out = h.time_out;
   behind = h.behind;
-  over = over_given before.place before.marks.closed n before.ahead before.frames h.is_put.marked.closed h.over;
+  over = over_given before.place before.frame_ends.closed n before.ahead before.frames h.is_put.ends_are.closed h.over;
 })
 
 -- ---- a piece was fed
@@ -147,10 +147,10 @@ serving_given before after octets taken n is h = subst (λ (c : Connection). IsS
 -- steps were taken of what was fed and the piece
 serving_on : (before after : Connection) (octets piece taken : List ℕ) (last : List What) (said : List ℕ) (h : IsServing before octets taken)
     → IsUnfinished before.ahead h.stream.behind h.stream.told h.stream.said → Went (and_piece (feed_state_of before) piece) (feed_state_of after) last said
-    → after.frames ≡ before.frames → after.marks ≡ before.marks → (after.ahead.phase ≡ Open → said ≡ [])
+    → after.frames ≡ before.frames → after.frame_ends ≡ before.frame_ends → (after.ahead.phase ≡ Open → said ≡ [])
     → IsUnfinished after.ahead [] last said ⊎ IsStopped after.ahead last said → (after.place ≡ Reading → IsUnfinished after.ahead [] last said) → (after.place ≡ Closing → IsStopped after.ahead last said)
     → IsOverFor after.place after.ahead after.frames → IsServing after (octets ++ piece) taken
-serving_on before after octets piece taken last said h unfinished went frames marks silent ends reads closes over =
+serving_on before after octets piece taken last said h unfinished went frames frame_ends silent ends reads closes over =
     let steps = h.stream.steps ++ went.steps in
     record {
       answers = answers_to steps ++ said;
@@ -173,7 +173,7 @@ serving_on before after octets piece taken last said h unfinished went frames ma
           (h.given ∙ ap (λ (t : List ℕ). t ++ h.put) h.stream.answers_are);
       put = h.put;
       ticks = h.ticks;
-      is_put = put_on before after h.ticks h.put frames marks (asks_on before.time_out after.time_out went.steps went.time_out) h.is_put;
+      is_put = put_on before after h.ticks h.put frames frame_ends (asks_on before.time_out after.time_out went.steps went.time_out) h.is_put;
       time_out = time_out_on None before.time_out after.time_out h.stream.steps went.steps h.time_out went.time_out;
       behind = behind_on before.ahead.phase after.ahead.phase went.steps before.frames after.frames went.follow frames h.behind;
       over = over;
@@ -222,41 +222,41 @@ over_not_reading is = cc
 -- octets that are refused, so that the engine is over
 serving_refused : (before after : Connection) (octets piece taken : List ℕ) (fault : EngineFault) (last : List What) (said : List ℕ) (h : IsServing before octets taken)
     → IsUnfinished before.ahead h.stream.behind h.stream.told h.stream.said → Went (and_piece (feed_state_of before) piece) (feed_state_of after) last said
-    → after.frames ≡ before.frames → after.marks ≡ before.marks → StopsFor fault after.ahead last said → IsStopped after.ahead last said × IsTurnedAway after.ahead → after.place ≡ Over Untold
+    → after.frames ≡ before.frames → after.frame_ends ≡ before.frame_ends → StopsFor fault after.ahead last said → IsStopped after.ahead last said × IsTurnedAway after.ahead → after.place ≡ Over Untold
     → IsServing after (octets ++ piece) taken
-serving_refused before after octets piece taken fault last said h unfinished went frames marks stopped why place =
-    serving_on before after octets piece taken last said h unfinished went frames marks (λ is. stop_unsaid fault after.ahead last said is stopped) (inr why.0)
+serving_refused before after octets piece taken fault last said h unfinished went frames frame_ends stopped why place =
+    serving_on before after octets piece taken last said h unfinished went frames frame_ends (λ is. stop_unsaid fault after.ahead last said is stopped) (inr why.0)
     (λ is. absurd (over_not_reading (sym place ∙ is))) (λ is. why.0) (subst (λ (p : EngineState). IsOverFor p after.ahead after.frames) (sym place) (inl why.1))
 
 -- octets that are no frame
 serving_unframed : (before after : Connection) (octets piece taken : List ℕ) (last : List What) (said : List ℕ) (h : IsServing before octets taken)
     → IsUnfinished before.ahead h.stream.behind h.stream.told h.stream.said → Went (and_piece (feed_state_of before) piece) (feed_state_of after) last said
-    → after.frames ≡ before.frames → after.marks ≡ before.marks → StopsFor faults.Frame after.ahead last said → after.place ≡ place_at_fault after.ahead.phase
+    → after.frames ≡ before.frames → after.frame_ends ≡ before.frame_ends → StopsFor faults.Frame after.ahead last said → after.place ≡ place_at_fault after.ahead.phase
     → IsServing after (octets ++ piece) taken
-serving_unframed before after octets piece taken last said h unfinished went frames marks stopped place =
+serving_unframed before after octets piece taken last said h unfinished went frames frame_ends stopped place =
     let why : IsStopped after.ahead last said = (stops.BadFrame, stopped.0, stopped.1, stopped.2) in
-    serving_on before after octets piece taken last said h unfinished went frames marks (λ is. stopped.2) (inr why)
+    serving_on before after octets piece taken last said h unfinished went frames frame_ends (λ is. stopped.2) (inr why)
     (λ is. absurd (not_reading after.ahead.phase (sym place ∙ is))) (λ is. why)
     (subst (λ (p : EngineState). IsOverFor p after.ahead after.frames) (sym place) (over_at_fault after.ahead.phase after.ahead.octets after.frames stopped.0))
 
 serving_steps : (before after : Connection) (octets piece taken : List ℕ) (result : Result Unit EngineFault) (h : IsServing before octets taken)
     → IsUnfinished before.ahead h.stream.behind h.stream.told h.stream.said → AfterSteps (and_piece (feed_state_of before) piece) (feed_state_of after) result
-    → after.frames ≡ before.frames → after.marks ≡ before.marks → after.place ≡ place_after result after.ahead.phase → stop_of result ≡ None
+    → after.frames ≡ before.frames → after.frame_ends ≡ before.frame_ends → after.place ≡ place_after result after.ahead.phase → stop_of result ≡ None
     → IsServing after (octets ++ piece) taken
-serving_steps before after octets piece taken (Ok done) h unfinished did frames marks place goes =
-    serving_on before after octets piece taken [] [] h unfinished did.0 frames marks (λ is. refl) (inl (refl, refl, refl, did.1)) (λ is. (refl, refl, refl, did.1)) (λ is. absurd (by (sym place ∙ is)))
+serving_steps before after octets piece taken (Ok done) h unfinished did frames frame_ends place goes =
+    serving_on before after octets piece taken [] [] h unfinished did.0 frames frame_ends (λ is. refl) (inl (refl, refl, refl, did.1)) (λ is. (refl, refl, refl, did.1)) (λ is. absurd (by (sym place ∙ is)))
     (subst (λ (p : EngineState). IsOverFor p after.ahead after.frames) (sym place) tt)
   where
     by : Reading ≡ Closing → ⊥
     by is = cc
-serving_steps before after octets piece taken (Err faults.HeaderRefused) h unfinished did frames marks place goes =
-    serving_refused before after octets piece taken faults.HeaderRefused did.0 did.1 h unfinished did.2 frames marks did.3 (header_refused after.ahead did.0 did.1 did.3) place
-serving_steps before after octets piece taken (Err faults.Frame) h unfinished did frames marks place goes = serving_unframed before after octets piece taken did.0 did.1 h unfinished did.2 frames marks did.3 place
-serving_steps before after octets piece taken (Err (faults.Port fault)) h unfinished did frames marks place goes = absurd cc
-serving_steps before after octets piece taken (Err faults.Over) h unfinished did frames marks place goes = absurd did.3
-serving_steps before after octets piece taken (Err faults.SaslRefused) h unfinished did frames marks place goes =
-    serving_refused before after octets piece taken faults.SaslRefused did.0 did.1 h unfinished did.2 frames marks did.3 (name_refused after.ahead did.0 did.1 did.3) place
-serving_steps before after octets piece taken (Err faults.Memory) h unfinished did frames marks place goes = absurd cc
+serving_steps before after octets piece taken (Err faults.HeaderRefused) h unfinished did frames frame_ends place goes =
+    serving_refused before after octets piece taken faults.HeaderRefused did.0 did.1 h unfinished did.2 frames frame_ends did.3 (header_refused after.ahead did.0 did.1 did.3) place
+serving_steps before after octets piece taken (Err faults.Frame) h unfinished did frames frame_ends place goes = serving_unframed before after octets piece taken did.0 did.1 h unfinished did.2 frames frame_ends did.3 place
+serving_steps before after octets piece taken (Err (faults.Port fault)) h unfinished did frames frame_ends place goes = absurd cc
+serving_steps before after octets piece taken (Err faults.Over) h unfinished did frames frame_ends place goes = absurd did.3
+serving_steps before after octets piece taken (Err faults.SaslRefused) h unfinished did frames frame_ends place goes =
+    serving_refused before after octets piece taken faults.SaslRefused did.0 did.1 h unfinished did.2 frames frame_ends did.3 (name_refused after.ahead did.0 did.1 did.3) place
+serving_steps before after octets piece taken (Err faults.Memory) h unfinished did frames frame_ends place goes = absurd cc
 
 memory_stops : (result : Result Unit EngineFault) → result ≡ Err faults.Memory → stop_of result ≡ None → ⊥
 memory_stops (Ok done) is goes = cc
@@ -269,10 +269,10 @@ memory_stops (Err faults.Memory) is goes = cc
 
 serving_piece : (before after : Connection) (octets piece taken : List ℕ) (result : Result Unit EngineFault) (h : IsServing before octets taken)
     → IsUnfinished before.ahead h.stream.behind h.stream.told h.stream.said → AfterPiece (feed_state_of before) (feed_state_of after) piece result
-    → after.frames ≡ before.frames → after.marks ≡ before.marks → after.place ≡ place_after result after.ahead.phase → stop_of result ≡ None
+    → after.frames ≡ before.frames → after.frame_ends ≡ before.frame_ends → after.place ≡ place_after result after.ahead.phase → stop_of result ≡ None
     → IsServing after (octets ++ piece) taken
-serving_piece before after octets piece taken result h unfinished (inl did) frames marks place goes = serving_steps before after octets piece taken result h unfinished did frames marks place goes
-serving_piece before after octets piece taken result h unfinished (inr did) frames marks place goes = absurd (memory_stops result did.0 goes)
+serving_piece before after octets piece taken result h unfinished (inl did) frames frame_ends place goes = serving_steps before after octets piece taken result h unfinished did frames frame_ends place goes
+serving_piece before after octets piece taken result h unfinished (inr did) frames frame_ends place goes = absurd (memory_stops result did.0 goes)
 
 -- a piece that was not looked at, where it is closing
 serving_closing : (before : Connection) (octets piece taken : List ℕ) → before.place ≡ Closing → IsServing before octets taken → IsServing before (octets ++ piece) taken
@@ -303,15 +303,15 @@ serving_closing before octets piece taken place h = record {
     by is = cc
 
 serving_at : (place : EngineState) (before after : Connection) (octets piece taken : List ℕ) (result : Result Unit EngineFault) → before.place ≡ place → is_over place ≡ false → FedAt place before after piece result
-    → after.frames ≡ before.frames → after.marks ≡ before.marks → stop_of result ≡ None → IsServing before octets taken → IsServing after (octets ++ piece) taken
-serving_at Reading before after octets piece taken result at going did frames marks goes h = serving_piece before after octets piece taken result h (h.reads at) did.0 frames marks did.1 goes
-serving_at Closing before after octets piece taken result at going did frames marks goes h =
+    → after.frames ≡ before.frames → after.frame_ends ≡ before.frame_ends → stop_of result ≡ None → IsServing before octets taken → IsServing after (octets ++ piece) taken
+serving_at Reading before after octets piece taken result at going did frames frame_ends goes h = serving_piece before after octets piece taken result h (h.reads at) did.0 frames frame_ends did.1 goes
+serving_at Closing before after octets piece taken result at going did frames frame_ends goes h =
     subst (λ (c : Connection). IsServing c (octets ++ piece) taken) (sym did.1) (serving_closing before octets piece taken at h)
-serving_at (Over loss) before after octets piece taken result at going did frames marks goes h = absurd cc
+serving_at (Over loss) before after octets piece taken result at going did frames frame_ends goes h = absurd cc
 
 pub serving_fed : (before after : Connection) (octets piece taken : List ℕ) (result : Result Unit EngineFault) → is_over before.place ≡ false → FedAt before.place before after piece result
-    → after.frames ≡ before.frames → after.marks ≡ before.marks → stop_of result ≡ None → IsServing before octets taken → IsServing after (octets ++ piece) taken
-serving_fed before after octets piece taken result going did frames marks goes h = serving_at before.place before after octets piece taken result refl going did frames marks goes h
+    → after.frames ≡ before.frames → after.frame_ends ≡ before.frame_ends → stop_of result ≡ None → IsServing before octets taken → IsServing after (octets ++ piece) taken
+serving_fed before after octets piece taken result going did frames frame_ends goes h = serving_at before.place before after octets piece taken result refl going did frames frame_ends goes h
 
 -- ---- the device is gone
 

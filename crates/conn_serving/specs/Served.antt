@@ -49,7 +49,7 @@ pub record IsServing (e : Connection) (octets taken : List ℕ) : Type 0 where
   pub put : List ℕ
   pub given : taken ++ e.waiting ≡ answers ++ put
   pub ticks : ℕ
-  pub is_put : IsPut e.frames e.marks (is_asked e.time_out) ticks put
+  pub is_put : IsPut e.frames e.frame_ends (is_asked e.time_out) ticks put
   pub time_out : e.time_out ≡ time_out_after None stream.steps
   pub behind : (e.ahead.phase ≡ phases.Open) ⊎ (e.frames ≡ [])
   pub over : IsOverFor e.place e.ahead e.frames

@@ -3,7 +3,7 @@
 ghost use Rattle.std.specs.Prelude.{◌≡◌, [], None};
 ghost use Rattle.stream_reading.specs.declared.step.Phase.TheVariants.{FirstHeader};
 ghost use Rattle.conn_engine.specs.declared.engine_state.EngineState.TheVariants.{Reading};
-ghost use Rattle.conn_engine.specs.FrameEnds.{no_marks};
+ghost use Rattle.conn_engine.specs.FrameEnds.{no_frame_ends};
 ghost use Rattle.conn_engine.specs.Pausing.{paused, resumed};
 ghost use Rattle.conn_engine.specs.Silence.{no_silence};
 
@@ -25,7 +25,7 @@ pub struct PausedEngine {
     reader: StreamReader,
     output: Output,
     next: u64,
-    marks: FrameEnds,
+    frame_ends: FrameEnds,
     place: EngineState,
     time_out: Option<u32>,
     silence: Silence,
@@ -36,20 +36,20 @@ impl Model for PausedEngine {
 
     ghost Value = { Paused };
 
-    ghost view = { λ e. record { number = e.connection; ahead = e.reader; waiting = e.output; marks = e.marks; place = e.place; time_out = e.time_out; silence = e.silence } };
+    ghost view = { λ e. record { number = e.connection; ahead = e.reader; waiting = e.output; frame_ends = e.frame_ends; place = e.place; time_out = e.time_out; silence = e.silence } };
 }
 
 impl PausedEngine {
     /// The engine of the connection of this number, of which no octet has come yet.
     pub fn new(alloc: Global, connection: u32) -> PausedEngine
-        ensures { result ≡ record { number = connection; ahead = record { phase = FirstHeader; octets = [] }; waiting = []; marks = no_marks; place = Reading; time_out = None; silence = no_silence } }
+        ensures { result ≡ record { number = connection; ahead = record { phase = FirstHeader; octets = [] }; waiting = []; frame_ends = no_frame_ends; place = Reading; time_out = None; silence = no_silence } }
     {
         PausedEngine {
             connection,
             reader: StreamReader::new(alloc),
             output: Output::new(alloc),
             next: 0,
-            marks: FrameEnds::new(),
+            frame_ends: FrameEnds::new(),
             place: EngineState::Reading,
             time_out: None,
             silence: Silence::new(),
@@ -67,7 +67,7 @@ impl PausedEngine {
             reader: self.reader,
             output: self.output,
             next: self.next,
-            marks: self.marks,
+            frame_ends: self.frame_ends,
             place: self.place,
             time_out: self.time_out,
             silence: self.silence,
@@ -89,7 +89,7 @@ impl<P: Port> Engine<P> {
             reader,
             output,
             next,
-            marks,
+            frame_ends,
             place,
             time_out,
             silence,
@@ -99,7 +99,7 @@ impl<P: Port> Engine<P> {
             reader,
             output,
             next,
-            marks,
+            frame_ends,
             place,
             time_out,
             silence,

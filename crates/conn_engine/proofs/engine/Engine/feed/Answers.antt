@@ -12,4 +12,4 @@ returns-in-Reading-clause-fed g c fed h =
 pub returns-in-Reading-clause-given : goal.returns-in-Reading-clause-given
 returns-in-Reading-clause-given g c extent fed given ticks h =
     let at : c.args.self.now.place ≡ Reading = search rules in
-    given_at Reading extent c.args.self.now c.read_piece.new.self fed given c.args.piece.now ticks c.read_piece.result at c.read_piece.ensures.frames c.read_piece.ensures.marks c.read_piece.ensures.did h
+    given_at Reading extent c.args.self.now c.read_piece.new.self fed given c.args.piece.now ticks c.read_piece.result at c.read_piece.ensures.frames c.read_piece.ensures.frame_ends c.read_piece.ensures.did h
