@@ -1,6 +1,6 @@
 //! How often a gate failed.
 
-ghost use Rattle.std.specs.Prelude.{◌≡◌, ◌+◌, ◌-◌, ◌^◌, ◌×◌, false};
+ghost use Rattle.std.specs.Prelude.{◌≡◌, ◌+◌, ◌-◌, ◌^◌, false};
 ghost use Rattle.std.specs.Bool.{OnTrue};
 
 /// Counts a failed call among those so far, unless there were as many as can be counted. Says whether it did.
