@@ -6,3 +6,4 @@ pub mod Puts
 pub mod Contents
 pub mod Fronts
 pub mod Examples
+pub mod Drawings

@@ -3,3 +3,5 @@ pub mod Grammar
 pub mod Escaping
 pub mod Names
 pub mod Drawn
+pub mod Numbers
+pub mod Parts

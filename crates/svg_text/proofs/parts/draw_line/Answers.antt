@@ -1,7 +1,7 @@
 use Rattle.svg_text.specs.Drawn.{empty_octets}
-use Rattle.svg_parts.specs.Parts.{line_octets}
-use Rattle.svg_parts.proofs.Drawings.{if_draws}
-use Rattle.svg_parts.proofs.parts.draw_line.Goals as goal
+use Rattle.svg_text.specs.Parts.{line_octets}
+use Rattle.svg_text.proofs.Drawings.{if_draws}
+use Rattle.svg_text.proofs.parts.draw_line.Goals as goal
 
 pub returns : goal.returns
 unfolding empty_octets line_octets

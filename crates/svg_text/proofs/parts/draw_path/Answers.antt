@@ -1,7 +1,7 @@
 use Rattle.svg_text.specs.Drawn.{empty_octets}
-use Rattle.svg_parts.specs.Parts.{path_octets}
-use Rattle.svg_parts.proofs.Drawings.{if_draws}
-use Rattle.svg_parts.proofs.parts.draw_path.Goals as goal
+use Rattle.svg_text.specs.Parts.{path_octets}
+use Rattle.svg_text.proofs.Drawings.{if_draws}
+use Rattle.svg_text.proofs.parts.draw_path.Goals as goal
 
 pub returns : goal.returns
 unfolding empty_octets path_octets

@@ -1,10 +1,12 @@
 //! Elements of several calls. Where memory is refused the drawing is gone.
 
 ghost use Rattle.std.specs.Prelude.{◌≡◌, IfOk};
-ghost use Rattle.svg_parts.specs.Parts.{Draws, element_octets, label_octets, line_octets, path_octets};
+ghost use Rattle.svg_text.specs.Parts.{Draws, element_octets, label_octets, line_octets, path_octets};
 
+use crate::attribute::{Attribute, Name, Value};
+use crate::drawing::Drawing;
+use crate::element::Element;
 use std::alloc::AllocError;
-use svg_text::{Attribute, Drawing, Element, Name, Value};
 
 /// An element with a text in it, and no attributes. The text is escaped.
 ///

@@ -1,8 +1,8 @@
 use Rattle.svg_text.specs.declared.element.Element.TheVariants.{Text}
 use Rattle.svg_text.specs.Drawn.{start_octets}
-use Rattle.svg_parts.specs.Parts.{label_octets}
-use Rattle.svg_parts.proofs.Drawings.{closed, written}
-use Rattle.svg_parts.proofs.parts.draw_label.Goals as goal
+use Rattle.svg_text.specs.Parts.{label_octets}
+use Rattle.svg_text.proofs.Drawings.{closed, written}
+use Rattle.svg_text.proofs.parts.draw_label.Goals as goal
 
 pub returns : goal.returns
 unfolding start_octets label_octets

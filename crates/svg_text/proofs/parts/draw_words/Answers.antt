@@ -1,5 +1,5 @@
-use Rattle.svg_parts.proofs.Drawings.{closed, written}
-use Rattle.svg_parts.proofs.parts.draw_words.Goals as goal
+use Rattle.svg_text.proofs.Drawings.{closed, written}
+use Rattle.svg_text.proofs.parts.draw_words.Goals as goal
 
 pub returns : goal.returns
 returns c =

@@ -4,7 +4,7 @@ use Rattle.std.proofs.lemmas.Result.{IfOk-weaker}
 use Rattle.std.specs.Prelude.{IfOk}
 use Rattle.svg_text.specs.declared.element.Element.{Element}
 use Rattle.svg_text.specs.Drawn.{Drawn, end_octets}
-use Rattle.svg_parts.specs.Parts.{Draws, DrawsSome}
+use Rattle.svg_text.specs.Parts.{Draws, DrawsSome}
 
 -- ---- one behind the other
 

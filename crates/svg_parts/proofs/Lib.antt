@@ -1,2 +1,0 @@
--- proofs/Lib.antt
-pub mod Drawings

@@ -1,3 +1,0 @@
--- specs/Lib.antt
-pub mod Numbers
-pub mod Parts
