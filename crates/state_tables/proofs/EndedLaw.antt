@@ -22,13 +22,14 @@ use Rattle.trace_events.proofs.Standing.{live-on}
 use Rattle.trace_clauses.proofs.LiveLinks.{live-link}
 use Rattle.trace_clauses.proofs.Undecided.{link_of_session}
 use Rattle.state_tables.specs.EndedLinks.{AreEnded, IsEndedOf, ends_at, ends_channel, ends_handle, ends_named, may_end}
-use Rattle.state_tables.specs.Links.{Counted, HandleState, attaches_out, begun, counted_next, detaches_in, detaches_out, link_of, named_handle, nothing, standing, standing_at, standing_behind, standing_next}
+use Rattle.state_tables.specs.Links.{Counted, HandleState, attaches_out, begun, counted_next, detaches_in, detaches_out, link_of, nothing, standing, standing_at, standing_behind, standing_next}
+use Rattle.state_counts.specs.LinkCounts.{named_handle}
 use Rattle.state_tables.specs.LinkTables.{AreLinked, standing_in, standing_of}
 use Rattle.state_tables.specs.declared.channels.Channels.{Channels}
 use Rattle.state_tables.specs.declared.links.Links.{Links}
 use Rattle.state_tables.proofs.EndedMembers.{none_in}
 use Rattle.state_tables.proofs.HandlesOfChannels.{standing-behind, standing-other}
-use Rattle.state_tables.proofs.LinkSteps.{attach-apart}
+use Rattle.state_counts.proofs.LinkSteps.{attach-apart}
 use Rattle.state_tables.proofs.LiveHandles.{linked, live_linked}
 
 last_of : (over : Bool) (last : Option Session) (s : Session) → (if over then None else last) ≡ Some s → last ≡ Some s

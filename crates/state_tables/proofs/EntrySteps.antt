@@ -6,7 +6,7 @@ use Rattle.number_runs.specs.Runs.{value_in}
 use Rattle.trace_events.specs.Words.{is_number}
 use Rattle.trace_events.specs.Event.{Event, channel_of}
 use Rattle.state_tables.specs.Connections.{AreSame, IsBare, Takes, TakesOne, fresh, seen_in, seen_next, seen_over, session_in, session_on, unanswered_in, unanswered_on}
-use Rattle.state_tables.specs.Sessions.{session_behind}
+use Rattle.state_counts.specs.Sessions.{session_behind}
 use Rattle.state_tables.specs.Unanswered.{nothing, unanswered_next}
 use Rattle.state_tables.specs.declared.connection.Connection.{Connection}
 use Rattle.state_tables.specs.declared.connections.Connections.{Connections}

@@ -19,9 +19,10 @@ use Rattle.trace_events.proofs.LinkSteps as steps
 use Rattle.trace_events.proofs.SessionNumbers.{judged-event_session, own_session-number}
 use Rattle.trace_events.proofs.Sessions as sessions
 use Rattle.trace_clauses.proofs.Undecided.{link_of_session}
-use Rattle.state_tables.specs.Links.{named_handle, Counted, Asked, HandleState, nothing, counted, begun, asked_in, standing, attaches_in, attaches_out, detaches_in, detaches_out, counted_next, link_next, asked_next, standing_next}
-use Rattle.state_tables.specs.declared.link_counts.LinkCounts.{LinkCounts}
-use Rattle.state_tables.proofs.LinkSteps.{link-named, attach-apart, attach-unnamed, counts-elsewhere, counts-next, counts-begun, off-session, opened-here}
+use Rattle.state_tables.specs.Links.{Counted, Asked, HandleState, nothing, counted, begun, asked_in, standing, attaches_in, attaches_out, detaches_in, detaches_out, counted_next, link_next, asked_next, standing_next}
+use Rattle.state_counts.specs.LinkCounts.{named_handle}
+use Rattle.state_counts.specs.declared.link_counts.LinkCounts.{LinkCounts}
+use Rattle.state_counts.proofs.LinkSteps.{link-named, attach-apart, attach-unnamed, counts-elsewhere, counts-next, counts-begun, off-session, opened-here}
 
 abbrev made : Option Counted → Option Asked → Bool → Bool → Bool → HandleState
 made a b c d e = record { link = a; asked = b; owes_detach = c; awaits_detach = d; is_undetached = e }

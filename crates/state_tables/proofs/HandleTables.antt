@@ -8,7 +8,8 @@ use Rattle.trace_events.specs.declared.session.Session.{Session}
 use Rattle.trace_events.specs.Connection.{is_final}
 use Rattle.trace_events.specs.Said.{handle_in, out_begin, is_in_end, is_out_end}
 use Rattle.trace_events.proofs.EventKinds.{in_said, out_said}
-use Rattle.state_tables.specs.Links.{Counted, Asked, HandleState, attaches_in, attaches_out, detaches_in, detaches_out, handle_about, handle_of, named_handle, nothing, says_of_handle, standing_behind, standing_next}
+use Rattle.state_tables.specs.Links.{Counted, Asked, HandleState, attaches_in, attaches_out, detaches_in, detaches_out, handle_about, handle_of, nothing, says_of_handle, standing_behind, standing_next}
+use Rattle.state_counts.specs.LinkCounts.{named_handle}
 use Rattle.state_tables.proofs.EndedSteps.{about, meant, of_attach, of_detach}
 
 abbrev made : Option Counted → Option Asked → Bool → Bool → Bool → HandleState

@@ -17,7 +17,7 @@ use Rattle.trace_events.proofs.LinkLives.{judged-stands, live_session-at}
 use Rattle.trace_events.proofs.SessionSteps.{live_session-same, live_session-over, live_session-was_over, live_session-ended, live_session-begun}
 use Rattle.state_tables.specs.Links.{HandleState, nothing, standing, standing_at, standing_next, standing_here, standing_behind}
 use Rattle.state_tables.proofs.HandleSteps.{standing-elsewhere, standing-here, nothing-begun}
-use Rattle.state_tables.proofs.SessionSteps.{live-known, live-same, off_session}
+use Rattle.state_counts.proofs.SessionSteps.{live-known, live-same, off_session}
 
 and_all : (a b : Bool) → b ≡ true → a && b ≡ a
 and_all true b is = is

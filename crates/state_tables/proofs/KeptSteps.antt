@@ -7,11 +7,11 @@ use Rattle.trace_events.specs.Event.{Event, channel_of, is_on_channel}
 use Rattle.trace_clauses.specs.Clauses.{first_broken}
 use Rattle.trace_events.proofs.Judged.{AreJudged}
 use Rattle.state_tables.specs.Connections.{AreSeen, AreKept, TakesOne, seen_in, session_in, unanswered_in, connection_at, seen_next}
-use Rattle.state_tables.specs.Sessions.{session_at, session_behind}
+use Rattle.state_counts.specs.Sessions.{session_at, session_behind}
 use Rattle.state_tables.specs.Unanswered.{unanswered_at, unanswered_next}
 use Rattle.state_tables.specs.declared.connections.Connections.{Connections}
 use Rattle.state_tables.proofs.ConnectionSteps.{next_connection}
-use Rattle.state_tables.proofs.SessionSteps.{session-other, session-behind}
+use Rattle.state_counts.proofs.SessionSteps.{session-other, session-behind}
 use Rattle.state_tables.proofs.UnansweredSteps.{unanswered-elsewhere, unanswered-here}
 
 -- whether a connection is seen or not, and however the capture is judged

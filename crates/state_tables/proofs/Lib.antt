@@ -2,12 +2,10 @@ pub mod GroupLists
 mod ConnectionSteps
 mod SeenSame
 mod UnansweredSteps
-mod SessionSteps
 mod KeptSteps
 mod EntrySteps
 mod RetireSteps
 mod LiveEntries
-mod LinkSteps
 mod HandleSteps
 mod HandlesOfChannels
 mod HandleTables
@@ -18,3 +16,14 @@ pub mod EndedMembers
 pub mod EndedSteps
 pub mod EndedTables
 pub mod EndedLaw
+pub mod ConsumerSteps
+pub mod ConsumersOf
+pub mod ConsumerLinkSteps
+mod ConsumerExamples
+mod Leaving
+mod CopyNumbers
+mod CopySteps
+mod CopiesKnown
+mod CopiesExamples
+mod TableSteps
+mod ReceiversOf

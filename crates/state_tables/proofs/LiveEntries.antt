@@ -3,9 +3,9 @@ use Rattle.std.proofs.Common.{◌≡◌, refl, ap, ◌∙◌, ℕ, Bool, true, f
 use Rattle.trace_events.specs.Event.{Event}
 use Rattle.trace_events.specs.declared.session.Session.{Session}
 use Rattle.trace_events.specs.Session.{live_session, last_in_begin, has_unanswered_begin}
-use Rattle.state_tables.specs.Sessions.{counted, session_at}
+use Rattle.state_counts.specs.Sessions.{counted, session_at}
 use Rattle.state_tables.specs.Unanswered.{begin_to_answer}
-use Rattle.state_tables.specs.declared.sessions.CountedSession.{CountedSession}
+use Rattle.state_counts.specs.declared.sessions.CountedSession.{CountedSession}
 use Rattle.state_tables.proofs.UnansweredSteps.{asked-some}
 
 pub live_is : (past : List Event) (o : Option Session) (found : Option CountedSession) → found ≡ option_map (λ s. counted s past) o → option_map (λ (x : CountedSession). x.session) found ≡ o

@@ -12,12 +12,12 @@ use Rattle.trace_events.specs.Event.{Event, is_opened, is_lost, is_broken, is_ou
 use Rattle.trace_events.specs.Said.{in_open, is_out_close, is_in_close}
 use Rattle.trace_events.specs.Connection as law
 use Rattle.trace_events.specs.Connection.{is_final, bounded_limit}
-use Rattle.state_tables.specs.Sessions.{session_at, opens_or_ends, session_next, session_behind}
+use Rattle.state_counts.specs.Sessions.{session_at, opens_or_ends, session_next, session_behind}
 use Rattle.state_tables.specs.Unanswered.{nothing, unanswered_at, unanswered_next}
 use Rattle.state_tables.specs.declared.connection.ConnectionSummary.{ConnectionSummary}
 use Rattle.state_tables.specs.declared.connection.Connection.{Connection}
 use Rattle.state_tables.specs.declared.on_channels.OnChannels.{OnChannels}
-use Rattle.state_tables.specs.declared.sessions.CountedSession.{CountedSession}
+use Rattle.state_counts.specs.declared.sessions.CountedSession.{CountedSession}
 use Rattle.state_tables.specs.declared.unanswered.Unanswered.{Unanswered}
 use Rattle.state_tables.specs.declared.connections.Connections.{Connections}
 

@@ -1,5 +1,4 @@
 pub mod Unanswered
-pub mod Sessions
 pub mod Connections
 pub mod Links
 pub mod HeldAddress
@@ -8,3 +7,8 @@ pub mod HeldViews
 pub mod EndedLinks
 pub mod Entries
 pub mod LetGo
+pub mod Consumers
+pub mod ConsumerLinks
+pub mod Addressed
+pub mod Copies
+pub mod Receivers

@@ -1,9 +1,7 @@
 -- What stands of a handle on a live session: its link with the counts of its credit, and what is still to be answered
 -- (part 2 of the standard, sections 2.6.3 to 2.6.7).
-use Rattle.std.specs.Prelude.{ℕ, ◌-◌, Bool, true, false, ◌&&◌, ◌||◌, not, List, [], Option, Some, None, is_some, is_none, option_and_then, option_map, unwrap_or, if◌then◌else◌, ◌==◌}
+use Rattle.std.specs.Prelude.{ℕ, Bool, true, false, ◌&&◌, ◌||◌, not, List, [], Option, Some, None, is_some, is_none, option_and_then, option_map, unwrap_or, if◌then◌else◌, ◌==◌}
 use Rattle.amqp_perf.specs.Meaning.{Meaning, AnAttach, AttachFields}
-use Rattle.flow_counts.specs.Credit.{LinkEvent, TheirFlow, OurFlow, Begun, credit_lag, is_drain_answer}
-use Rattle.flow_counts.specs.Serial.{serial_add}
 use Rattle.trace_events.specs.Words.{is_some_and, is_number, or_else}
 use Rattle.trace_events.specs.Event.{Event, Link, channel_of, spoken_of}
 use Rattle.trace_events.specs.declared.session.Session.{Session}
@@ -12,46 +10,10 @@ use Rattle.trace_events.specs.Connection.{is_final}
 use Rattle.trace_events.specs.Session.{live_session}
 use Rattle.trace_events.specs.Link as law
 use Rattle.trace_events.specs.Link.{first_count, session_link, unanswered_attach}
-use Rattle.trace_events.specs.Credit as credits
 use Rattle.trace_events.specs.Credit.{link_event}
 use Rattle.trace_clauses.specs.LinkClause.{Asking, asked_by}
-use Rattle.state_tables.specs.declared.link_counts.LinkCounts.{LinkCounts}
-
--- ---- the counts of a link
-
--- what the law says of them
-abbrev pub link_counts : Link → List Event → LinkCounts
-link_counts l past = record {
-  link_credit = credits.link_credit l past;
-  delivery_count = credits.delivery_count l past;
-  is_draining = credits.is_draining l past;
-  given_credit = credits.given_credit l past;
-  received_count = credits.received_count l past;
-}
-
--- before the link's first event
-abbrev pub unmoved : Link → LinkCounts
-unmoved l = link_counts l []
-
--- with one more of its events; the first count is that of the attach which the client was told
-abbrev pub moved : ℕ → LinkCounts → Option LinkEvent → LinkCounts
-moved first x None = x
-moved first x (Some Begun) = record x {
-  link_credit = x.link_credit - 1;
-  delivery_count = serial_add x.delivery_count 1;
-  given_credit = x.given_credit - 1;
-  received_count = serial_add x.received_count 1;
-}
-moved first x (Some (TheirFlow known None drain)) = x
-moved first x (Some (TheirFlow known (Some credit) drain)) = record x {
-  link_credit = credit - credit_lag first x.delivery_count known;
-  is_draining = drain;
-}
-moved first x (Some (OurFlow count credit drain)) = record x {
-  link_credit = if is_drain_answer credit drain then 0 else x.link_credit;
-  delivery_count = unwrap_or (option_map (λ n. serial_add n 0) count) x.delivery_count;
-  given_credit = unwrap_or credit x.given_credit;
-}
+use Rattle.state_counts.specs.LinkCounts.{link_counts, moved, named_handle, unmoved}
+use Rattle.state_counts.specs.declared.link_counts.LinkCounts.{LinkCounts}
 
 -- ---- a handle
 
@@ -131,10 +93,6 @@ detaches_in handle e = is_some_and (in_detach e) (λ fields. fields.handle == ha
 
 abbrev pub detaches_out : ℕ → Event → Bool
 detaches_out handle e = is_some_and (out_detach e) (λ fields. fields.handle == handle)
-
--- the handle that a flow, a transfer or a detach names
-abbrev pub named_handle : Event → Option ℕ
-named_handle e = option_and_then (λ spoken. handle_in spoken.meaning) (spoken_of e.moment)
 
 -- a link that the event names
 abbrev pub counted_next : Event → Counted → Counted

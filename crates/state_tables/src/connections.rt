@@ -10,15 +10,15 @@ ghost use Rattle.trace_events.specs.History.{history};
 ghost use Rattle.number_runs.specs.Runs.{value_in};
 ghost use Rattle.state_tables.specs.Connections.{AreKept, AreSame, AreSeen, HasNoRoom, IsDone, IsLawfulNext, TakesOne, connection_at, seen_in, seen_over, session_in, unanswered_in};
 ghost use Rattle.state_tables.specs.Entries.{capped, entries_of_connections};
-ghost use Rattle.state_tables.specs.Sessions.{session_at};
+ghost use Rattle.state_counts.specs.Sessions.{session_at};
 ghost use Rattle.state_tables.specs.Unanswered.{unanswered_at};
 ghost use Rattle.trace_values.specs.View.{Events, event_view};
 
 use crate::connection::{Connection, ConnectionSummary};
-use crate::sessions::CountedSession;
 use crate::unanswered::Unanswered;
 use number_map::NumberMap;
 use number_runs::{NumberRuns, RunValue};
+use state_counts::CountedSession;
 use std::alloc::{AllocError, Global};
 use trace_values::Event;
 

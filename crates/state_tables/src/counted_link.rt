@@ -5,7 +5,7 @@ ghost use Rattle.state_tables.specs.Links.{begun, counted_next};
 ghost use Rattle.trace_values.specs.View.{event_view, link_view};
 
 use crate::held_link::HeldLink;
-use crate::link_counts::LinkCounts;
+use state_counts::LinkCounts;
 use std::alloc::{AllocError, Global};
 use std::marker::Model;
 use trace_values::{Event, Link};

@@ -2,13 +2,14 @@
 
 ghost use Rattle.std.specs.Prelude.{◌≡◌, IfOk, None, OnOk, OnErr, is_some, option_map, ◌&&◌, if◌then◌else◌};
 ghost use Rattle.state_tables.specs.Entries.{entries_of_handle};
+ghost use Rattle.state_counts.specs.LinkCounts as counting;
 ghost use Rattle.state_tables.specs.Links as law;
 ghost use Rattle.state_tables.specs.Links.{asked_in, asked_next, awaits_next, begun, link_next, nothing, owes_next, standing_next, undetached_next};
 ghost use Rattle.trace_values.specs.View.{asking_view, event_view, link_view};
 
 use crate::counted_link::CountedLink;
 use crate::held_attach::HeldAttach;
-use crate::link_counts::LinkCounts;
+use state_counts::LinkCounts;
 use std::alloc::{AllocError, Global};
 use std::marker::Model;
 use trace_values::{Asking, Event, Link, handle_in};
@@ -40,7 +41,7 @@ impl Model for Handle {
 
 /// The handle that a flow, a transfer or a detach names.
 pub(crate) fn named_handle(event: &Event) -> Option<u32>
-    ensures { result ≡ law.named_handle (event_view event.now) }
+    ensures { result ≡ counting.named_handle (event_view event.now) }
 {
     handle_in(&event.moment.spoken()?.performative)
 }

@@ -7,12 +7,12 @@ ghost use Rattle.trace_events.specs.Link as links;
 ghost use Rattle.trace_events.specs.Link.{IsLiveLink};
 ghost use Rattle.trace_events.specs.Session.{IsLiveOn};
 ghost use Rattle.state_tables.specs.LinkTables.{AreLinked};
-ghost use Rattle.state_tables.specs.Links.{link_counts};
+ghost use Rattle.state_counts.specs.LinkCounts.{link_counts};
 ghost use Rattle.trace_values.specs.Answering.{their_first_count};
 ghost use Rattle.trace_values.specs.View.{Events, asking_view, link_view};
 
-use crate::link_counts::LinkCounts;
 use crate::links::Links;
+use state_counts::LinkCounts;
 use trace_events::Session;
 use trace_values::{Asking, Link};
 

@@ -5,13 +5,13 @@ ghost use Rattle.std.specs.Prelude.{◌≡◌, ℕ, ◌==◌, ◌<◌, None, fal
 ghost use Rattle.indexmap.specs.IndexMap.{spare};
 ghost use Rattle.state_tables.specs.Connections.{AreFull, AreSameAmong, HasNone, TakesAmong, session_among, unanswered_among};
 ghost use Rattle.state_tables.specs.Entries.{capped, entries_among};
-ghost use Rattle.state_tables.specs.Sessions.{opens_or_ends};
+ghost use Rattle.state_counts.specs.Sessions.{opens_or_ends};
 ghost use Rattle.state_tables.specs.Unanswered.{nothing};
 ghost use Rattle.trace_values.specs.View.{event_view};
 
-use crate::sessions::{CountedSession, opens_or_ends, session_after};
 use crate::unanswered::Unanswered;
 use number_map::NumberMap;
+use state_counts::{CountedSession, opens_or_ends, session_after};
 use std::alloc::{AllocError, Global};
 use trace_values::Event;
 

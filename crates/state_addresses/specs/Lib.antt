@@ -1,5 +1,0 @@
-pub mod Consumers
-pub mod ConsumerLinks
-pub mod Addressed
-pub mod Copies
-pub mod Receivers

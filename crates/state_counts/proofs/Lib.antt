@@ -1,0 +1,2 @@
+pub mod LinkSteps
+pub mod SessionSteps
