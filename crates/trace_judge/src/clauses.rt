@@ -71,10 +71,15 @@ fn broken_by_transfer<'a, P: Counts + Carriage<'a> + Outcomes<'a>>(
     payload: &'a [u8],
 ) -> Option<Clause>
     requires few { P.is_short past.now }
-    ensures { (history : Events) → P.stands_for past.now rules.now history → P.is_whole past.now → StandsLive (event_view event.now) history → NamesLive (event_view event.now) history →
+    ensures whole { (history : Events) → P.stands_for past.now rules.now history → P.is_whole past.now → StandsLive (event_view event.now) history → NamesLive (event_view event.now) history →
         (event_view event.now).number ≡ length history →
         CarriesKnown (λ n. P.knows_number past.now n history) (λ j. P.knows_outgoing past.now j history) (event_view event.now) →
         (result ≡ find (λ clause. not (law.transfer_meets rules.now (event_view event.now) (transfer_fields transfer.now) payload.now history clause)) law.clauses) }
+    // Where what links carried last is kept, what is found unbroken is so.
+    ensures last { (history : Events) → P.stands_for past.now rules.now history → P.keeps_last past.now history → StandsLive (event_view event.now) history → NamesLive (event_view event.now) history →
+        (event_view event.now).number ≡ length history →
+        CarriesKnown (λ n. P.knows_number past.now n history) (λ j. P.knows_outgoing past.now j history) (event_view event.now) →
+        result ≡ None → find (λ clause. not (law.transfer_meets rules.now (event_view event.now) (transfer_fields transfer.now) payload.now history clause)) law.clauses ≡ None }
 {
     let begins = event.begins_outgoing();
     if !has_link_and_window(past, event, transfer) {
@@ -177,10 +182,15 @@ fn broken_by_spoken<'a, 'm: 'a, P: Questions<'a>>(
     spoken: &Spoken<'m>,
 ) -> Option<Clause>
     requires few { P.is_short past.now }
-    ensures { (history : Events) → P.stands_for past.now rules.now history → P.is_whole past.now → StandsLive (event_view event.now) history → NamesLive (event_view event.now) history →
+    ensures whole { (history : Events) → P.stands_for past.now rules.now history → P.is_whole past.now → StandsLive (event_view event.now) history → NamesLive (event_view event.now) history →
         (event_view event.now).number ≡ length history →
         CarriesKnown (λ n. P.knows_number past.now n history) (λ j. P.knows_outgoing past.now j history) (event_view event.now) →
         (result ≡ law.broken_by rules.now (event_view event.now) (frame_view frame.now) history (Some (spoken_view spoken.now))) }
+    // Where what links carried last is kept, what is found unbroken is so.
+    ensures last { (history : Events) → P.stands_for past.now rules.now history → P.keeps_last past.now history → StandsLive (event_view event.now) history → NamesLive (event_view event.now) history →
+        (event_view event.now).number ≡ length history →
+        CarriesKnown (λ n. P.knows_number past.now n history) (λ j. P.knows_outgoing past.now j history) (event_view event.now) →
+        result ≡ None → law.broken_by rules.now (event_view event.now) (frame_view frame.now) history (Some (spoken_view spoken.now)) ≡ None }
 {
     if !may_be_written(past, event.connection, spoken)
         || !fits_limit(past, event.connection, frame)
@@ -209,10 +219,15 @@ pub fn broken_clause<'a, 'm: 'a, P: Questions<'a>>(
     event: &Event<'_, '_, 'm>,
 ) -> Option<Clause>
     requires few { P.is_short past.now }
-    ensures { (history : Events) → P.stands_for past.now rules.now history → P.is_whole past.now → StandsLive (event_view event.now) history → NamesLive (event_view event.now) history →
+    ensures whole { (history : Events) → P.stands_for past.now rules.now history → P.is_whole past.now → StandsLive (event_view event.now) history → NamesLive (event_view event.now) history →
         (event_view event.now).number ≡ length history →
         CarriesKnown (λ n. P.knows_number past.now n history) (λ j. P.knows_outgoing past.now j history) (event_view event.now) →
         (result ≡ law.broken_clause rules.now (event_view event.now) history) }
+    // Where what links carried last is kept, what is found unbroken is so.
+    ensures last { (history : Events) → P.stands_for past.now rules.now history → P.keeps_last past.now history → StandsLive (event_view event.now) history → NamesLive (event_view event.now) history →
+        (event_view event.now).number ≡ length history →
+        CarriesKnown (λ n. P.knows_number past.now n history) (λ j. P.knows_outgoing past.now j history) (event_view event.now) →
+        result ≡ None → law.broken_clause rules.now (event_view event.now) history ≡ None }
 {
     let Moment::Out(frame) = event.moment else {
         return None;

@@ -53,6 +53,10 @@ pub trait History {
 
     /// It has kept all that a transfer may name, also what no lawful one names any more.
     ghost is_whole: { Self → Type 0 };
+
+    /// It has kept what the last delivery of each live link of a consumer carries, so that what the next one carries can be compared
+    /// with it.
+    ghost keeps_last: { Self → Events → Type 0 };
 }
 
 /// All questions.

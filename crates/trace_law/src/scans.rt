@@ -33,6 +33,8 @@ impl<'p, 'a> History for Past<'p, 'a> {
     ghost is_short = { λ past. length (events past) < 2 ^ 64 };
 
     ghost is_whole = { λ past. Unit {0} };
+
+    ghost keeps_last = { λ past history. Unit {0} };
 }
 
 impl<'p, 'a> Questions<'a> for Past<'p, 'a> {}

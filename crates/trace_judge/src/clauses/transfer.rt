@@ -5,7 +5,7 @@ ghost use Rattle.capture_form.specs.Rules.{RuleSet};
 ghost use Rattle.trace_events.specs.Credit.{begins_outgoing};
 ghost use Rattle.amqp_perf.specs.View.{transfer_fields};
 ghost use Rattle.trace_events.specs.Session.{StandsLive};
-ghost use Rattle.trace_events.specs.Link.{IsLiveLink};
+ghost use Rattle.trace_events.specs.Link.{IsLiveLink, is_consumer};
 ghost use Rattle.trace_values.specs.View.{event_view, incoming_view, link_view, outgoing_view, Events};
 ghost use Rattle.trace_clauses.specs.TransferClause as law;
 ghost use Rattle.trace_events.specs.Words.{is_some_and};
@@ -143,7 +143,10 @@ fn goes_to_one_or_is_due<'a, P: Carriage<'a> + Outcomes<'a>>(
 }
 
 fn is_in_order<'a, P: Carriage<'a>>(past: &P, link: &Link, delivery: &Incoming) -> bool
-    ensures { (rules : RuleSet) (history : Events) → P.stands_for past.now rules history → P.is_whole past.now → IsLiveLink (link_view link.now) history → P.knows_incoming past.now (incoming_view delivery.now) history →
+    ensures whole { (rules : RuleSet) (history : Events) → P.stands_for past.now rules history → P.is_whole past.now → IsLiveLink (link_view link.now) history → P.knows_incoming past.now (incoming_view delivery.now) history →
+        (result ≡ law.is_in_order (link_view link.now) history (incoming_view delivery.now)) }
+    ensures last { (rules : RuleSet) (history : Events) → P.stands_for past.now rules history → P.keeps_last past.now history → IsLiveLink (link_view link.now) history →
+        is_consumer (link_view link.now) ≡ true → P.knows_incoming past.now (incoming_view delivery.now) history →
         (result ≡ law.is_in_order (link_view link.now) history (incoming_view delivery.now)) }
 {
     match past.carried_before(link) {
@@ -161,7 +164,10 @@ pub(crate) fn goes_once_and_in_order<'a, P: Carriage<'a> + Outcomes<'a>>(
     delivery: &Incoming,
 ) -> bool
     requires few { P.is_short past.now }
-    ensures { (history : Events) → P.stands_for past.now rules.now history → P.is_whole past.now → IsLiveLink (link_view link.now) history → P.knows_incoming past.now (incoming_view delivery.now) history →
+    ensures whole { (history : Events) → P.stands_for past.now rules.now history → P.is_whole past.now → IsLiveLink (link_view link.now) history → P.knows_incoming past.now (incoming_view delivery.now) history →
+        (result ≡ (law.goes_to_one_or_is_due rules.now (link_view link.now) history (incoming_view delivery.now) && law.is_in_order (link_view link.now) history (incoming_view delivery.now))) }
+    ensures last { (history : Events) → P.stands_for past.now rules.now history → P.keeps_last past.now history → IsLiveLink (link_view link.now) history →
+        is_consumer (link_view link.now) ≡ true → P.knows_incoming past.now (incoming_view delivery.now) history →
         (result ≡ (law.goes_to_one_or_is_due rules.now (link_view link.now) history (incoming_view delivery.now) && law.is_in_order (link_view link.now) history (incoming_view delivery.now))) }
 {
     goes_to_one_or_is_due(past, rules, link, delivery) && is_in_order(past, link, delivery)

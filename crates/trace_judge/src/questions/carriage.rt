@@ -10,12 +10,12 @@ use trace_values::{Incoming, Link, Outgoing};
 /// What takes a link is asked of a live one alone, and what takes a delivery of one that is known.
 pub trait Carriage<'a>: History {
     ghost use Rattle.capture_form.specs.Rules.{RuleSet};
-    ghost use Rattle.std.specs.Prelude.{List, ◌≡◌, ◌++◌, IfSome, bytes_eq, option_map};
+    ghost use Rattle.std.specs.Prelude.{List, ◌≡◌, ◌++◌, IfSome, Some, true, bytes_eq, option_map};
     ghost use Rattle.trace_events.specs.Due as due;
     ghost use Rattle.trace_events.specs.Incoming as received;
     ghost use Rattle.trace_events.specs.Outgoing as sent;
     ghost use Rattle.trace_clauses.specs.TransferClause as transfers;
-    ghost use Rattle.trace_events.specs.Link.{IsLiveLink};
+    ghost use Rattle.trace_events.specs.Link.{IsLiveLink, is_consumer};
     ghost use Rattle.trace_values.specs.Known.{IsCarriedBy};
     ghost use Rattle.trace_values.specs.View.{Events, incoming_view, link_view, outgoing_view};
 
@@ -29,7 +29,10 @@ pub trait Carriage<'a>: History {
         ensures value { (history : Events) → Self.stands_for self.now rules.now history → Self.is_whole self.now →
             (option_map incoming_view result ≡ transfers.to_carry rules.now note history) }
         ensures known { (history : Events) → Self.stands_for self.now rules.now history →
-            IfSome (option_map incoming_view result) (λ d. Self.knows_incoming self.now d history) };
+            IfSome (option_map incoming_view result) (λ d. Self.knows_incoming self.now d history) }
+        // What is found is what the law finds, whatever has been let go.
+        ensures found { (history : Events) → Self.stands_for self.now rules.now history →
+            IfSome (option_map incoming_view result) (λ d. transfers.to_carry rules.now note history ≡ Some d) };
 
     /// It is for this address: its link's, or where that has none its message's.
     fn is_for(&self, delivery: &Incoming, address: &[u8]) -> bool
@@ -39,6 +42,9 @@ pub trait Carriage<'a>: History {
     /// The incoming delivery that the last one begun on the link carries.
     fn carried_before(&self, link: &Link) -> Option<Incoming<'a>>
         ensures value { (rules : RuleSet) (history : Events) → Self.stands_for self.now rules history → Self.is_whole self.now → IsLiveLink (link_view link.now) history →
+            (option_map incoming_view result ≡ transfers.carried_before (link_view link.now) history) }
+        ensures last { (rules : RuleSet) (history : Events) → Self.stands_for self.now rules history → Self.keeps_last self.now history →
+            IsLiveLink (link_view link.now) history → is_consumer (link_view link.now) ≡ true →
             (option_map incoming_view result ≡ transfers.carried_before (link_view link.now) history) }
         ensures known { (rules : RuleSet) (history : Events) → Self.stands_for self.now rules history → IsLiveLink (link_view link.now) history →
             IfSome (option_map incoming_view result) (λ d. Self.knows_incoming self.now d history) };

@@ -25,6 +25,6 @@ returns c =
     let live = subst (λ (e : Event). StandsLive e past) (sym judged) (placed-stands past entry.connection (moment_of entry.what) entry.note) in
     let names = subst (λ (e : Event). NamesLive e past) (sym judged) (placed-names past entry.connection (moment_of entry.what) entry.note) in
     let number : (event_view c.judge_unopened-event.result).number ≡ length past = ap (λ (e : Event). e.number) judged in
-    c.broken_clause.ensures past refl tt live names number (carries_all (event_view c.judge_unopened-event.result))
+    c.broken_clause.ensures.whole past refl tt live names number (carries_all (event_view c.judge_unopened-event.result))
     ∙ (ap (λ (e : Event). broken_clause rules e past) judged
     ∙ sym (broken-unopened rules past entry))
