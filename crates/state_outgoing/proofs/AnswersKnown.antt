@@ -1,12 +1,13 @@
 -- What the table of deliveries to clients answers is what the law says.
-use Rattle.std.proofs.Common.{◌≡◌, refl, sym, ap, subst, ◌∙◌, ◌⊎◌, inl, inr, ℕ, Bool, true, false, ◌&&◌, not, List, [], length, Option, Some, None, IfSome, is_some, option_and_then, option_map, if◌then◌else◌, arith}
+use Rattle.std.proofs.Common.{◌≡◌, refl, sym, ap, subst, ◌∙◌, ◌⊎◌, inl, inr, ℕ, Bool, true, false, ◌&&◌, not, List, length, Option, Some, None, IfSome, is_some, option_and_then, option_map, nat_eq, if◌then◌else◌, ◌==◌, eqb-true, eq-eqb, arith}
 use Rattle.std.specs.Prelude.{Contains}
-use Rattle.std.specs.List.{list_all}
+use Rattle.std.specs.List.{list_all, list_any}
+use Rattle.indexmap.specs.IndexMap.{get}
 use Rattle.pairing_cert.specs.declared.note.Note.{Note}
 use Rattle.pairing_cert.specs.declared.note.Note.TheVariants as notes
 use Rattle.capture_form.specs.Rules.{RuleSet}
 use Rattle.trace_events.specs.declared.session.Session.{Session}
-use Rattle.trace_events.specs.Words.{is_some_and}
+use Rattle.trace_events.specs.Words.{is_number, is_some_and, where_passes}
 use Rattle.trace_events.specs.Event.{Event, Link, Incoming, Outgoing}
 use Rattle.trace_events.specs.Disposition.{terminal_state}
 use Rattle.trace_events.specs.Incoming.{incoming_at}
@@ -19,21 +20,25 @@ use Rattle.trace_events.proofs.Judged.{AreJudged, judged-born}
 use Rattle.trace_events.proofs.OutgoingLinks.{first_deciding-before}
 use Rattle.trace_events.proofs.SettlingSteps.{is_to_settle-parts}
 use Rattle.trace_clauses.specs.TransferClause.{carried_before}
+use Rattle.trace_clauses.proofs.WaitingQueue.{find_has}
 use Rattle.number_groups.specs.Groups.{numbers}
+use Rattle.state_tables.specs.ConsumerLinks.{link_in}
 use Rattle.state_tables.specs.LetGo.{is_let_go, names_let_go}
+use Rattle.state_tables.specs.declared.consumer_links.ConsumerLinks.{ConsumerLinks}
 use Rattle.state_outgoing.specs.Earliest.{least}
 use Rattle.number_groups.specs.Ids.{same_id}
 use Rattle.state_outgoing.specs.Carriers.{carriers_in}
-use Rattle.state_outgoing.specs.LastBegun.{carrier_number, last_number}
+use Rattle.state_outgoing.specs.LastBegun.{carrier_number, is_last_carrying, is_last_let_go, last_number, last_on}
 use Rattle.state_outgoing.specs.LetGo.{where_kept, kept_at, is_finished}
 use Rattle.state_outgoing.specs.Sent.{IsKnownTo, Sent, sent, sent_at, is_left_unsettled}
 use Rattle.state_outgoing.specs.SentAnswers.{AreClosings, Knows, KnowsOrBegins, carried, closes, decided, delivery_in, is_settleable, says_sent, unsent}
-use Rattle.state_outgoing.specs.SentTables.{AreSent, IsTable, is_done_in, sent_in}
+use Rattle.state_outgoing.specs.SentTables.{AreSent, IsTable, is_done_in, is_last_in, sent_in}
 use Rattle.state_outgoing.specs.declared.deliveries.SentDeliveries.{SentDeliveries}
 use Rattle.number_groups.specs.declared.id_on.IdOn.{IdOn}
-use Rattle.state_outgoing.proofs.CarriersKnown.{done-each, each-done, paired-entry, pairing-entry}
+use Rattle.state_outgoing.proofs.CarriersKnown.{carrying-kept, done-each, each-done, named-gone, none-passes, paired-entry, pairing-entry}
 use Rattle.state_outgoing.proofs.LastBegun.{carried-entry, progress-entry, progress-known, progress-unsent}
-use Rattle.state_outgoing.proofs.SentKept.{entry-law, found-kept, unfinished-entry, unsent-unfinished, unsettled-unfinished}
+use Rattle.state_outgoing.proofs.OutgoingNumbers.{found-passes}
+use Rattle.state_outgoing.proofs.SentKept.{contained-at, entry-law, found-kept, unfinished-entry, unsent-unfinished, unsettled-unfinished}
 use Rattle.state_outgoing.proofs.SentBegun.{at-number, found-below, sent-none}
 use Rattle.state_outgoing.proofs.SentKnown.{entry_to_settle, sent-of}
 use Rattle.state_outgoing.proofs.ToSettle.{to_settle-entry}
@@ -149,9 +154,9 @@ module _ (rules : RuleSet) (past : List Event) (are : AreJudged rules past) (tab
   pub progress-table : (l : Link) (last : Option ℕ) → last ≡ last_number table.let_go.items l.number past → unsent (option_and_then (sent_in table) last) ≡ law.in_progress l past
   progress-table l last is = progress-entry rules past are table.let_go.items (sent_in table) is_table.entries l.number last is is_table.finished l refl
 
-  pub carried-table : table.let_go.items ≡ [] → (l : Link) (last : Option ℕ) → last ≡ last_number table.let_go.items l.number past → option_and_then (λ n. incoming_at n past) (carried (option_and_then (sent_in table) last)) ≡ carried_before l past
-  carried-table none l last is =
-      carried-noted (option_and_then (sent_in table) last) past ∙ carried-entry rules past are table.let_go.items (sent_in table) is_table.entries l.number last is none l refl
+  pub carried-table : (l : Link) → is_last_let_go table.let_go.items l.number past ≡ false → (last : Option ℕ) → last ≡ last_number table.let_go.items l.number past → option_and_then (λ n. incoming_at n past) (carried (option_and_then (sent_in table) last)) ≡ carried_before l past
+  carried-table l stays last is =
+      carried-noted (option_and_then (sent_in table) last) past ∙ carried-entry rules past are table.let_go.items (sent_in table) is_table.entries l.number last is stays l refl
 
   module _ (d : Incoming) (stays : is_let_go table.let_go.items d.number ≡ false) (last : Option ℕ)
       (is : last ≡ (if is_let_go table.let_go.items d.number then None else carrier_number d.number past)) where
@@ -170,6 +175,42 @@ module _ (rules : RuleSet) (past : List Event) (are : AreJudged rules past) (tab
     pub each-finished : ((j : Outgoing) → Contains (law.outgoing_deliveries past) j → law.names number j.note ≡ true → is_finished past j ≡ true)
         → list_all (is_done_in table) (carriers_in table.begun number) ≡ true
     each-finished = each-done rules past are table.let_go.items (sent_in table) is_table.entries number stays (carriers_in table.begun number) (is_table.begun.carriers number)
+
+    -- where none of those that carry it is last on one of these links, the last one on none of these carries it
+    module _ (links : ConsumerLinks) (none : list_any (is_last_in table links) (carriers_in table.begun number) ≡ false)
+        (link : ℕ) (lives : is_some (link_in links link) ≡ true) where
+      on-number : (j : Outgoing) → last_on link past ≡ Some j → law.names number j.note ≡ true → get nat_eq table.begun.on_link link ≡ Some j.number
+      on-number j is named =
+          is_table.begun.on_link link
+          ∙ (ap (λ o. option_map (λ (k : Outgoing). k.number) (where_passes (λ (k : Outgoing). not (names_let_go table.let_go.items k.note)) o)) is
+          ∙ ap (λ b. option_map (λ (k : Outgoing). k.number) (if not b then Some j else None)) (named-gone table.let_go.items number j.note named ∙ stays))
+
+      -- the test of the one that carries it
+      last-passes : (j : Outgoing) → last_on link past ≡ Some j → law.names number j.note ≡ true → is_last_in table links j.number ≡ true
+      last-passes j is named =
+          let there = find_has (λ (k : Outgoing). k.link.number == link) (law.outgoing_deliveries past) j is in
+          let on : j.link.number ≡ link = eqb-true j.link.number link (found-passes (λ (k : Outgoing). k.link.number == link) (law.outgoing_deliveries past) j is) in
+          let kept = carrying-kept rules past are table.let_go.items (sent_in table) is_table.entries number stays j (contained-at rules past are j there) named in
+          ap (λ o. is_some_and o (λ (x : Sent). is_some (link_in links x.delivery.link.number) && is_number (get nat_eq table.begun.on_link x.delivery.link.number) j.number)) kept
+          ∙ (ap (λ n. is_some (link_in links n) && is_number (get nat_eq table.begun.on_link n) j.number) on
+          ∙ (ap (λ b. b && is_number (get nat_eq table.begun.on_link link) j.number) lives
+          ∙ (ap (λ o. is_number o j.number) (on-number j is named) ∙ eq-eqb j.number j.number refl)))
+
+      pub last-apart : is_last_carrying number link past ≡ false
+      last-apart = by (last_on link past) refl
+        where
+          one : (j : Outgoing) → last_on link past ≡ Some j → (b : Bool) → law.names number j.note ≡ b → b ≡ false
+          one j is false named = refl
+          one j is true named =
+              let there = find_has (λ (k : Outgoing). k.link.number == link) (law.outgoing_deliveries past) j is in
+              let never : true ≡ false = sym (last-passes j is named)
+              ∙ none-passes rules past are table.let_go.items (sent_in table) is_table.entries number stays (carriers_in table.begun number) (is_table.begun.carriers number)
+              (is_last_in table links) none j there named in
+              absurd cc
+
+          by : (o : Option Outgoing) → last_on link past ≡ o → is_some_and o (λ j. law.names number j.note) ≡ false
+          by None is = refl
+          by (Some j) is = one j is (law.names number j.note) refl
 
   asks : (does_close : ℕ → Bool) → AreClosings does_close past → (n : ℕ) → is_settleable does_close (sent_in table n) ≡ is_some_and (sent_in table n) (λ x. is_to_settle past x.delivery)
   asks does_close closes_them n = by (sent_in table n) refl

@@ -1,7 +1,7 @@
 -- The deliveries to clients that carry a delivery from a client are told by their numbers.
 use Rattle.std.proofs.Common.{◌≡◌, refl, sym, ap, ◌∙◌, inl, inr, ℕ, Bool, true, false, ◌&&◌, ◌||◌, List, [], ◌∷◌, map, filter, find, Option, Some, None, is_some, nat_eq, option_and_then, option_map, if◌then◌else◌, eqb-true, eq-eqb}
 use Rattle.std.specs.Prelude.{Contains}
-use Rattle.std.specs.List.{cons_option, list_all, slice_get}
+use Rattle.std.specs.List.{cons_option, list_all, list_any, slice_get}
 use Rattle.number_groups.specs.Numbers.{is_among}
 use Rattle.pairing_cert.specs.declared.note.Note.{Note}
 use Rattle.pairing_cert.specs.declared.note.Note.TheVariants as notes
@@ -20,6 +20,23 @@ use Rattle.state_outgoing.proofs.SentKept.{contained-at, stays-kept}
 use Rattle.state_outgoing.proofs.OutgoingNumbers.{begun-number, found-passes, found-entry}
 
 -- ---- lists by a test
+
+-- where none of some numbers passes, each of them does not
+pub none-gives : (test : ℕ → Bool) (ns : List ℕ) → list_any test ns ≡ false → (n : ℕ) → is_among ns n ≡ true → test n ≡ false
+none-gives test [] none n is = absurd cc
+none-gives test (m ∷ ms) none n is = by (nat_eq n m) refl is (none-gives test ms (rest (test m) (list_any test ms) none) n)
+  where
+    first : (a b : Bool) → a || b ≡ false → a ≡ false
+    first false b is = refl
+    first true b is = absurd cc
+
+    rest : (a b : Bool) → a || b ≡ false → b ≡ false
+    rest false b is = is
+    rest true b is = absurd cc
+
+    by : (b : Bool) → nat_eq n m ≡ b → b || is_among ms n ≡ true → (is_among ms n ≡ true → test n ≡ false) → test n ≡ false
+    by true here is later = ap test (eqb-true n m here) ∙ first (test m) (list_any test ms) none
+    by false off is later = later is
 
 module _ {A : Type 0} where
   -- the first that passes is the first of all that pass
@@ -153,7 +170,7 @@ some-map f (Some x) = refl
 module _ (rules : RuleSet) (past : List Event) (are : AreJudged rules past) (gone : List (ℕ × Unit {0})) (kept : ℕ → Option Sent) (were : (n : ℕ) → kept n ≡ kept_at gone n past)
     (number : ℕ) (stays : is_let_go gone number ≡ false) where
   -- what is kept of one that carries it
-  carrying-kept : (j : Outgoing) → outgoing_at j.number past ≡ Some j → names number j.note ≡ true → kept j.number ≡ Some (sent past j)
+  pub carrying-kept : (j : Outgoing) → outgoing_at j.number past ≡ Some j → names number j.note ≡ true → kept j.number ≡ Some (sent past j)
   carrying-kept j at named =
       were j.number ∙ (ap (λ o. where_kept gone (option_map (sent past) o)) at ∙ stays-kept gone (sent past j) (named-gone gone number j.note named ∙ stays))
 
@@ -203,6 +220,13 @@ module _ (rules : RuleSet) (past : List Event) (are : AreJudged rules past) (gon
     done-each all j there named =
         sym (done-finished j (contained-at rules past are j there) named)
         ∙ all-gives (λ (k : Outgoing). done k.number) (carriers number past) (sym all-done ∙ all) j (filter_has (λ (k : Outgoing). names number k.note) (outgoing_deliveries past) j named there)
+
+    -- and where no number of them passes a test, that of none does
+    pub none-passes : (test : ℕ → Bool) → list_any test has ≡ false → (j : Outgoing) → Contains (outgoing_deliveries past) j → names number j.note ≡ true → test j.number ≡ false
+    none-passes test none j there named =
+        none-gives test has none j.number
+        (ap (λ ns. is_among ns j.number) is-carriers
+        ∙ among-has (λ (k : Outgoing). k.number) (carriers number past) j (filter_has (λ (k : Outgoing). names number k.note) (outgoing_deliveries past) j named there))
 
     pub each-done : ((j : Outgoing) → Contains (outgoing_deliveries past) j → names number j.note ≡ true → is_finished past j ≡ true) → list_all done has ≡ true
     each-done each =

@@ -1,6 +1,5 @@
 -- The delivery in progress on a link, and what was carried there before, are told by the last delivery that began on it.
-use Rattle.std.proofs.Common.{◌≡◌, refl, sym, ap, subst, ◌∙◌, ◌<◌, ◌≤◌, inl, inr, ℕ, Bool, true, false, not, ◌&&◌, ◌||◌, List, [], ◌∷◌, length, Option, Some, None, IfSome, find, option_and_then, option_map, if◌then◌else◌, ◌==◌, eqb-true, eq-eqb, ne_eqb, arith}
-use Rattle.std.specs.List.{AllByRecursion}
+use Rattle.std.proofs.Common.{◌≡◌, refl, sym, ap, subst, ◌∙◌, ◌<◌, ◌≤◌, inl, inr, ℕ, Bool, true, false, not, ◌&&◌, ◌||◌, List, [], ◌∷◌, length, Option, Some, None, IfSome, option_and_then, option_map, if◌then◌else◌, ◌==◌, eqb-true, eq-eqb, ne_eqb, arith}
 use Rattle.amqp_perf.specs.Meaning.{TransferFields, flag}
 use Rattle.pairing_cert.specs.declared.note.Note.{Note}
 use Rattle.capture_form.specs.Rules.{RuleSet}
@@ -14,15 +13,14 @@ use Rattle.trace_clauses.specs.TransferClause.{carried_before}
 use Rattle.trace_events.proofs.Along.{and_then_some}
 use Rattle.trace_events.proofs.Judged.{AreJudged, AreBorn, IsBorn, IsTransfer, judged-born, judged-number, judged-transfer}
 use Rattle.trace_events.proofs.Links.{passing}
-use Rattle.trace_events.proofs.OutgoingLinks.{IsOnEarlier, judged-on_earlier, deliveries-earlier}
 use Rattle.trace_events.proofs.OutgoingSteps.{in_progress-same, is_sent-no_part}
 use Rattle.trace_clauses.proofs.OutgoingProgress.{IsPartOf, judged-outgoing_part, noted_pair}
 use Rattle.state_tables.specs.LetGo.{names_let_go}
 use Rattle.state_outgoing.specs.LetGo.{where_kept, kept_at}
 use Rattle.state_outgoing.specs.Sent.{Sent, sent}
-use Rattle.state_outgoing.specs.LastBegun.{last_on, last_number, begins_on, on_link_next}
+use Rattle.state_outgoing.specs.LastBegun.{last_on, last_number, is_last_let_go, begins_on, on_link_next}
 use Rattle.trace_clauses.proofs.WaitingQueue.{find_has}
-use Rattle.state_outgoing.proofs.SentKept.{IsOver, all-kept, unfinished-names, unsent-unfinished}
+use Rattle.state_outgoing.proofs.SentKept.{IsOver, unfinished-names, unsent-unfinished}
 use Rattle.state_outgoing.proofs.OutgoingNumbers.{begun-number, found-passes, found-earlier, found-at, found-known, found-entry, last-step}
 
 -- ---- one more event
@@ -279,12 +277,14 @@ module _ (rules : RuleSet) (past : List Event) (are : AreJudged rules past) (gon
           kept-or j (not (names_let_go gone j.note)) (is_sent j past) refl
           (λ unsent. ap not (unfinished-names gone past over j (find_has (λ (k : Outgoing). k.link.number == link) (outgoing_deliveries past) j found) (unsent-unfinished past j unsent)))
 
-  -- what it carries was carried before, where nothing was let go
-  pub carried-entry : gone ≡ [] → (l : Link) → l.number ≡ link → option_and_then (λ x. noted x.delivery.note past) (option_and_then kept last) ≡ carried_before l past
-  carried-entry none l own =
-      ap (option_and_then (λ (x : Sent). noted x.delivery.note past)) (last-entry ∙ all-kept gone none (option_map (sent past) (last_on link past)))
-      ∙ (by (last_on link past) ∙ ap (λ n. option_and_then (λ (j : Outgoing). noted j.note past) (last_on n past)) (sym own))
+  -- what it carries was carried before, where that was not let go
+  pub carried-entry : is_last_let_go gone link past ≡ false → (l : Link) → l.number ≡ link
+      → option_and_then (λ x. noted x.delivery.note past) (option_and_then kept last) ≡ carried_before l past
+  carried-entry stays l own =
+      ap (option_and_then (λ (x : Sent). noted x.delivery.note past)) last-entry
+      ∙ (by (last_on link past) stays ∙ ap (λ n. option_and_then (λ (j : Outgoing). noted j.note past) (last_on n past)) (sym own))
     where
-      by : (o : Option Outgoing) → option_and_then (λ (x : Sent). noted x.delivery.note past) (option_map (sent past) o) ≡ option_and_then (λ (j : Outgoing). noted j.note past) o
-      by None = refl
-      by (Some j) = refl
+      by : (o : Option Outgoing) → is_some_and o (λ j. names_let_go gone j.note) ≡ false
+          → option_and_then (λ (x : Sent). noted x.delivery.note past) (where_kept gone (option_map (sent past) o)) ≡ option_and_then (λ (j : Outgoing). noted j.note past) o
+      by None none = refl
+      by (Some j) none = ap (λ b. option_and_then (λ (x : Sent). noted x.delivery.note past) (if not b then Some (sent past j) else None)) none

@@ -12,11 +12,19 @@ use Rattle.trace_events.specs.Frame.{frame_read}
 use Rattle.trace_events.specs.History.{history, judge}
 use Rattle.trace_clauses.specs.Written.{spoken_octets}
 use Rattle.trace_clauses.proofs.Made.{from, from_with, carry, gives, first, hi, q, consumer, sent, half, rest}
-use Rattle.state_outgoing.specs.LastBegun.{last_number, begins_on, carrier_number, carrier_numbers, begins_carrier, carriers_next}
+use Rattle.state_outgoing.specs.LastBegun.{last_number, is_last_carrying, is_last_let_go, begins_on, carrier_number, carrier_numbers, begins_carrier, carriers_next}
 
 unfoldable last_in : List (ℕ × Unit {0}) → List Record → ℕ → Option ℕ
 unfolding frame_read whole_frame frame_at sized_frame headed_frame read digits spoken_octets frame_octets written
 last_in gone records link = last_number gone link (history no_rules records)
+
+unfoldable let_go_in : List (ℕ × Unit {0}) → List Record → ℕ → Bool
+unfolding frame_read whole_frame frame_at sized_frame headed_frame read digits spoken_octets frame_octets written
+let_go_in gone records link = is_last_let_go gone link (history no_rules records)
+
+unfoldable carrying_in : List Record → ℕ → ℕ → Bool
+unfolding frame_read whole_frame frame_at sized_frame headed_frame read digits spoken_octets frame_octets written
+carrying_in records n link = is_last_carrying n link (history no_rules records)
 
 unfoldable begins_in : List Record → Record → ℕ → Bool
 unfolding frame_read whole_frame frame_at sized_frame headed_frame read digits spoken_octets frame_octets written
@@ -93,6 +101,36 @@ last-let_go = refl
 last-other_let_go : last_in ((16, tt) ∷ []) two 13 ≡ Some 19
 unfolding last_in
 last-other_let_go = refl
+
+-- the last one's, and not that of the one before it
+let_go-last : let_go_in ((17, tt) ∷ []) two 13 ≡ true
+unfolding let_go_in
+let_go-last = refl
+
+let_go-earlier : let_go_in ((16, tt) ∷ []) two 13 ≡ false
+unfolding let_go_in
+let_go-earlier = refl
+
+let_go-elsewhere : let_go_in ((17, tt) ∷ []) two 6 ≡ false
+unfolding let_go_in
+let_go-elsewhere = refl
+
+carrying-last : carrying_in two 17 13 ≡ true
+unfolding carrying_in
+carrying-last = refl
+
+carrying-earlier : carrying_in two 16 13 ≡ false
+unfolding carrying_in
+carrying-earlier = refl
+
+-- on each link the last one
+carrying-on_two_links : carrying_in both 16 13 ≡ true
+unfolding carrying_in
+carrying-on_two_links = refl
+
+carrying-elsewhere : carrying_in elsewhere 16 13 ≡ false
+unfolding carrying_in
+carrying-elsewhere = refl
 
 begins-there : begins_in sent half 13 ≡ true
 unfolding begins_in

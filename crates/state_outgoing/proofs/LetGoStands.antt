@@ -49,7 +49,7 @@ module _ (gone : List (ℕ × Unit {0})) (number : ℕ) where
   let-go-more : (n : ℕ) → is_let_go more n ≡ is_let_go gone n || (number == n)
   let-go-more n = list_any-append (λ (p : ℕ × Unit {0}). p.0 == n) gone ((number, tt) ∷ []) ∙ ap (λ b. is_let_go gone n || b) (or_false (number == n))
 
-  names-more : (note : Note) → names_let_go more note ≡ names_let_go gone note || names number note
+  pub names-more : (note : Note) → names_let_go more note ≡ names_let_go gone note || names number note
   names-more (notes.Pair n) = let-go-more n ∙ ap (λ b. is_let_go gone n || b) (swapped number n)
   names-more notes.None = refl
   names-more (notes.Told why) = refl

@@ -18,6 +18,7 @@ mod Removed
 mod SentRegrouped
 mod LeftLinks
 mod LetGoStands
+pub mod LastKept
 mod SpokenNone
 mod SentFound
 mod SentTaken

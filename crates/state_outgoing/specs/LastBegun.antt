@@ -15,6 +15,14 @@ last_on link past = find (λ j. j.link.number == link) (outgoing_deliveries past
 abbrev pub last_number : List (ℕ × Unit {0}) → ℕ → List Event → Option ℕ
 last_number gone link past = option_map (λ j. j.number) (where_passes (λ j. not (names_let_go gone j.note)) (last_on link past))
 
+-- what the last one carries was let go
+abbrev pub is_last_let_go : List (ℕ × Unit {0}) → ℕ → List Event → Bool
+is_last_let_go gone link past = is_some_and (last_on link past) (λ j. names_let_go gone j.note)
+
+-- the last one carries the delivery from a client of number n
+abbrev pub is_last_carrying : ℕ → ℕ → List Event → Bool
+is_last_carrying n link past = is_some_and (last_on link past) (λ j. names n j.note)
+
 -- the event begins a delivery on the link
 abbrev pub begins_on : Event → ℕ → Bool
 begins_on e link = is_some_and (outgoing_begun e) (λ j. j.link.number == link)

@@ -1,5 +1,5 @@
 -- What the entries of deliveries to clients answer, where there is one.
-use Rattle.std.specs.Prelude.{◌≡◌, ◌⊎◌, ℕ, Bool, false, not, List, length, Option, Some, None, option_and_then, option_map}
+use Rattle.std.specs.Prelude.{◌≡◌, ◌⊎◌, ℕ, Bool, false, not, List, length, Option, Some, option_and_then, option_map}
 use Rattle.amqp_perf.specs.Nested.{StateFields}
 use Rattle.pairing_cert.specs.declared.note.Note.{Note}
 use Rattle.pairing_cert.specs.declared.note.Note.TheVariants as notes

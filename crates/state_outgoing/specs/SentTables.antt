@@ -1,10 +1,12 @@
 -- What the table of deliveries to clients stands for.
-use Rattle.std.specs.Prelude.{◌≡◌, ℕ, Bool, true, ◌&&◌, List, [], Contains, Option, None, option_map, unwrap_or, nat_eq, ◌==◌, if◌then◌else◌}
+use Rattle.std.specs.Prelude.{◌≡◌, ℕ, Bool, true, ◌&&◌, List, [], Contains, Option, None, is_some, option_map, unwrap_or, nat_eq, ◌==◌, if◌then◌else◌}
 use Rattle.indexmap.specs.IndexMap.{get}
-use Rattle.trace_events.specs.Words.{is_some_and}
+use Rattle.trace_events.specs.Words.{is_number, is_some_and}
 use Rattle.trace_events.specs.Event.{Event, Outgoing}
 use Rattle.trace_events.specs.Outgoing.{outgoing_deliveries}
+use Rattle.state_tables.specs.ConsumerLinks.{link_in}
 use Rattle.state_tables.specs.LetGo.{is_let_go, names_let_go}
+use Rattle.state_tables.specs.declared.consumer_links.ConsumerLinks.{ConsumerLinks}
 use Rattle.state_outgoing.specs.Sent.{Sent, sent_next}
 use Rattle.state_outgoing.specs.Carriers.{carriers_in}
 use Rattle.state_outgoing.specs.LastBegun.{last_number, carrier_numbers}
@@ -25,6 +27,11 @@ sent_count_in table n = unwrap_or (option_map (λ x. x.sent_count) (sent_in tabl
 -- it has an entry of this number, whose delivery is finished
 abbrev pub is_done_in : SentDeliveries → ℕ → Bool
 is_done_in table n = is_some_and (sent_in table n) is_done
+
+-- it has an entry of this number, whose delivery began last on its link, and the link is one of these
+abbrev pub is_last_in : SentDeliveries → ConsumerLinks → ℕ → Bool
+is_last_in table links n =
+    is_some_and (sent_in table n) (λ x. is_some (link_in links x.delivery.link.number) && is_number (get nat_eq table.begun.on_link x.delivery.link.number) n)
 
 -- of all whose delivery from a client was not let go, the table has what the law says of these events
 abbrev pub AreSent : SentDeliveries → List Event → Type 0

@@ -10,6 +10,7 @@ ghost use Rattle.trace_events.specs.Incoming.{incoming_at};
 ghost use Rattle.trace_events.specs.Outgoing as law;
 ghost use Rattle.trace_events.specs.Settling as settling;
 ghost use Rattle.state_tables.specs.LetGo.{is_let_go};
+ghost use Rattle.state_outgoing.specs.LastBegun.{is_last_let_go};
 ghost use Rattle.state_outgoing.specs.SentAnswers as entries;
 ghost use Rattle.state_outgoing.specs.SentAnswers.{AreClosings, Knows, KnowsOrBegins};
 ghost use Rattle.state_outgoing.specs.SentTables.{AreSent, IsTable, sent_in};
@@ -33,10 +34,11 @@ impl SentDeliveries {
         self.unsent(self.last_begun_on(link.number))
     }
 
-    /// The number of the delivery from a client that the last one begun on the link carries. It is asked of a table from which
-    /// nothing was let go. `None` where none began there, or it carries none.
+    /// The number of the delivery from a client that the last one begun on the link carries. It is asked where that was not let
+    /// go. `None` where none began there, or it carries none.
     pub fn carried_before(&self, link: &Link) -> Option<u64>
-        ensures { (rules : RuleSet) (records : List Record) → IsTable self.now (history rules records) → self.now.let_go.items ≡ [] →
+        ensures { (rules : RuleSet) (records : List Record) → IsTable self.now (history rules records) →
+            is_last_let_go self.now.let_go.items (link_view link.now).number (history rules records) ≡ false →
             option_and_then (λ n. incoming_at n (history rules records)) result ≡ transfers.carried_before (link_view link.now) (history rules records) }
     {
         self.carried_by(self.last_begun_on(link.number))

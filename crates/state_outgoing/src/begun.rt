@@ -84,17 +84,23 @@ impl LastNumbers {
         Ok(())
     }
 
+    /// The delivery of this number is the last on the link.
+    pub(crate) fn is_last(&self, link: u64, number: u64) -> bool
+        ensures { result ≡ is_number (get nat_eq self.now.on_link link) number }
+    {
+        match self.on_link.get(&link) {
+            Some(last) => *last == number,
+            None => false,
+        }
+    }
+
     /// The delivery of this number is the last on the link no more, if it was.
     pub(crate) fn leave_link(&mut self, link: u64, number: u64)
         ensures on_link { (n : ℕ) → get nat_eq self.new.on_link n
             ≡ (if (link == n) && is_number (get nat_eq self.old.on_link n) number then None else get nat_eq self.old.on_link n) }
         ensures carriers { self.new.carriers ≡ self.old.carriers }
     {
-        let is_last = match self.on_link.get(&link) {
-            Some(last) => *last == number,
-            None => false,
-        };
-        if is_last {
+        if self.is_last(link, number) {
             self.on_link.swap_remove(&link);
         }
     }

@@ -16,18 +16,19 @@ ghost use Rattle.trace_events.specs.History.{judge, history};
 ghost use Rattle.trace_clauses.specs.Clauses.{first_broken};
 ghost use Rattle.trace_clauses.specs.TransferClause.{is_payload_so_far};
 ghost use Rattle.state_tables.specs.Connections.{IsLawfulNext};
+ghost use Rattle.state_tables.specs.ConsumerLinks.{link_in};
 ghost use Rattle.state_tables.specs.EndedLinks.{AreEnded};
 ghost use Rattle.state_tables.specs.LetGo.{is_let_go, names_let_go};
 ghost use Rattle.state_outgoing.specs.Carriers.{carriers_in, listed};
 ghost use Rattle.state_outgoing.specs.Given.{gives, says};
 ghost use Rattle.state_verdicts.specs.Verdicts.{AreGiven};
-ghost use Rattle.state_outgoing.specs.LastBegun.{last_number, carrier_number};
+ghost use Rattle.state_outgoing.specs.LastBegun.{last_number, carrier_number, is_last_carrying};
 ghost use Rattle.state_outgoing.specs.LetGo.{is_finished};
 ghost use Rattle.state_outgoing.specs.Sent as kept;
 ghost use Rattle.state_outgoing.specs.Sent.{sent_begun, sent_next};
 ghost use Rattle.state_outgoing.specs.SentAnswers.{KnowsOrBegins};
 ghost use Rattle.state_outgoing.specs.SentGrouped.{AreGrouped};
-ghost use Rattle.state_outgoing.specs.SentTables.{AreMovedBy, AreSent, IsTable, MovesAt, is_done_in, last_without, sent_in, sent_count_in};
+ghost use Rattle.state_outgoing.specs.SentTables.{AreMovedBy, AreSent, IsTable, MovesAt, is_done_in, is_last_in, last_without, sent_in, sent_count_in};
 ghost use Rattle.state_outgoing.specs.SentTouched.{answered_id, is_spoken_of};
 ghost use Rattle.state_outgoing.specs.SentViews.{sent_view};
 ghost use Rattle.trace_values.specs.Known.{IsCarriedBy};
@@ -42,6 +43,7 @@ use crate::sent::SentDelivery;
 use http_server::Log;
 use number_groups::{Groups, IdOn, NumberSet};
 use number_map::NumberMap;
+use state_tables::ConsumerLinks;
 use state_verdicts::CopyVerdict;
 use std::alloc::{AllocError, Global};
 use trace_values::{Event, Link};
@@ -231,6 +233,50 @@ impl SentDeliveries {
     {
         match self.get(number) {
             Some(own) => own.is_done(),
+            None => false,
+        }
+    }
+
+    /// Of those that carry the delivery from a client of this number, one is the last that began on its link, and the link is
+    /// among these. It takes the time of those that carry it.
+    pub fn is_carried_last(&self, number: u64, links: &ConsumerLinks) -> bool
+        ensures stored { result ≡ list_any (is_last_in self.now links.now) (carriers_in self.now.begun number) }
+        ensures known { (rules : RuleSet) (records : List Record) → IsTable self.now (history rules records) → is_let_go self.now.let_go.items number ≡ false →
+            result ≡ false → (link : ℕ) → is_some (link_in links.now link) ≡ true → is_last_carrying number link (history rules records) ≡ false }
+    {
+        self.says_carried_last(number, links)
+    }
+
+    fn says_carried_last(&self, number: u64, links: &ConsumerLinks) -> bool
+        ensures { result ≡ list_any (is_last_in self.now links.now) (carriers_in self.now.begun number) }
+    {
+        match self.begun.carriers.get(&number) {
+            Some(carriers) => {
+                self.is_last(carriers.last, links) || self.has_last(&carriers.earlier, links)
+            }
+            None => false,
+        }
+    }
+
+    /// One of these is the last that began on its link, and the link is among these.
+    fn has_last(&self, numbers: &[u64], links: &ConsumerLinks) -> bool
+        ensures { result ≡ list_any (is_last_in self.now links.now) (reverse numbers.now) }
+    {
+        numbers
+            .iter()
+            .rev()
+            .any(|number| self.is_last(*number, links))
+    }
+
+    /// There is an entry of this number, whose delivery began last on its link, and the link is among these.
+    fn is_last(&self, number: u64, links: &ConsumerLinks) -> bool
+        ensures { result ≡ is_last_in self.now links.now number }
+    {
+        match self.get(number) {
+            Some(own) => {
+                let link = own.delivery().link.number;
+                links.get(link).is_some() && self.begun.is_last(link, number)
+            }
             None => false,
         }
     }

@@ -34,8 +34,8 @@ use Rattle.trace_clauses.proofs.WaitingQueue.{all_contained, completed_once, con
 use Rattle.trace_clauses.specs.CopyVerdict.{copy_verdict, begun_verdict_by, verdict_by, awaits_verdict, awaits_now}
 use Rattle.trace_clauses.specs.BestVerdict.{is_same_outcome, is_verdict, has_verdict}
 use Rattle.trace_clauses.proofs.AwaitedSteps.{awaits_verdict_moves, awaits_now-live, awaited-given, has_verdict_moves, new_link-undue}
-use Rattle.state_addresses.specs.ConsumerLinks.{has_link}
-use Rattle.state_addresses.specs.Copies.{AreDue}
+use Rattle.state_tables.specs.ConsumerLinks.{has_link}
+use Rattle.state_tables.specs.Copies.{AreDue}
 use Rattle.state_verdicts.specs.Verdicts.{AreGiven, awaits_at, verdict_at, comes_now, is_given, is_of_copy, is_verdict_of}
 use Rattle.state_verdicts.specs.declared.verdicts.CopyVerdict.{CopyVerdict}
 use Rattle.state_verdicts.proofs.TableSteps.{and_false, any-gives, any-from, both-ways}

@@ -14,7 +14,7 @@ ghost use Rattle.trace_values.specs.View.{Events, event_view};
 ghost use Rattle.trace_clauses.specs.BestVerdict.{is_same_outcome};
 ghost use Rattle.state_tables.specs.Connections.{IsLawfulNext};
 ghost use Rattle.state_tables.specs.EndedLinks.{AreEnded, views};
-ghost use Rattle.state_addresses.specs.Copies.{AreDue};
+ghost use Rattle.state_tables.specs.Copies.{AreDue};
 ghost use Rattle.state_verdicts.specs.Verdicts.{AreGiven, AreMirrored, AreVerdicts, IsAwaited, MayGrow, awaits_in, comes_now, had_in, is_given, is_taken};
 
 use crate::had::Had;

@@ -7,7 +7,7 @@ use Rattle.state_outgoing.proofs.AnswersKnown.{carried-table}
 use Rattle.state_outgoing.proofs.deliveries.SentDeliveries.carried_before.Goals as goal
 
 pub returns : goal.returns
-returns c = λ rules records is none.
+returns c = λ rules records is stays.
     let past = history rules records in
     ap (option_and_then (λ n. incoming_at n past)) c.carried_by.ensures
-    ∙ carried-table rules past (history-judged rules records) c.args.self.now is none (link_view c.args.link.now) c.last_begun_on.result (c.last_begun_on.ensures past is)
+    ∙ carried-table rules past (history-judged rules records) c.args.self.now is (link_view c.args.link.now) stays c.last_begun_on.result (c.last_begun_on.ensures past is)
