@@ -19,7 +19,7 @@ use Rattle.trace_events.proofs.Judged.{AreJudged, judged-number, history-judged}
 use Rattle.trace_events.proofs.Links.{passing}
 use Rattle.trace_clauses.proofs.Incomings.{judged-part, judged-sound, at-step}
 use Rattle.trace_clauses.proofs.OneConsumer.{incoming_at-is}
-use Rattle.state_addresses.specs.Addressed.{IsAddressed}
+use Rattle.state_tables.specs.Addressed.{IsAddressed}
 use Rattle.state_incoming.specs.Held.{IsEntry, Held, held, is_held, held_at, address_behind, held_next, held_on, unbegun, held_begun, is_begun_served, HeldFollows, HeldBegins}
 use Rattle.state_incoming.specs.Held.{says_arriving, says_waiting, says_gone, says_paired, may_go, may_tell, comes_before}
 use Rattle.state_incoming.specs.declared.held.Fate.{Fate}

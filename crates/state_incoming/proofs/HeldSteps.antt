@@ -32,7 +32,7 @@ use Rattle.trace_clauses.proofs.Parts.{EachPart, IsKept, delivery_kept}
 use Rattle.trace_clauses.proofs.PartsGoOn.{MayGoOn, part-goes_on, unbegun-payload, incomplete-completion, unbegun-settled}
 use Rattle.trace_clauses.proofs.Undecided.{all_before}
 use Rattle.trace_clauses.proofs.WaitingQueue.{completed_once}
-use Rattle.state_addresses.specs.Addressed.{IsAddressed}
+use Rattle.state_tables.specs.Addressed.{IsAddressed}
 use Rattle.state_incoming.specs.Held.{fate_of, fate_next, says_arriving, Held, held, is_held, held_at, address_behind, moved, stays_with, stays, held_next, held_on, first_address, unbegun, held_behind, undecided_next}
 use Rattle.state_incoming.specs.declared.held.Fate.{Fate}
 use Rattle.state_incoming.specs.declared.held.Fate.TheVariants.{Arriving, Waiting, Gone, Paired, Copied}

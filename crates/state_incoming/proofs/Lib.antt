@@ -4,7 +4,7 @@ mod HeldSteps
 mod HeldExamples
 pub mod HeldAnswers
 mod HeldKnown
-mod CompletedKnown
+pub mod CompletedKnown
 mod HeldUntouched
 mod HeldSparse
 pub mod OverKnown

@@ -16,7 +16,7 @@ use Rattle.trace_events.specs.Waiting.{is_of_multicast, always_had_consumer, is_
 use Rattle.trace_events.specs.Queue.{pairs}
 use Rattle.trace_events.specs.Settling.{is_closed}
 use Rattle.trace_events.specs.Work.{closes_incoming}
-use Rattle.state_addresses.specs.Addressed.{IsAddressed}
+use Rattle.state_tables.specs.Addressed.{IsAddressed}
 use Rattle.state_tables.specs.Connections.{IsLawfulNext}
 use Rattle.state_incoming.specs.declared.held.Fate.{Fate}
 use Rattle.state_incoming.specs.declared.held.Fate.TheVariants.{Arriving, Waiting, Gone, Paired, Copied}

@@ -6,5 +6,4 @@ pub mod Touched
 pub mod LetGo
 pub mod HeldTables
 pub mod EntryAnswers
-pub mod Completed
 pub mod WaitingCount

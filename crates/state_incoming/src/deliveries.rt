@@ -12,7 +12,7 @@ ghost use Rattle.trace_events.specs.Words.{is_some_and, or_else, where_passes};
 ghost use Rattle.trace_clauses.specs.Clauses.{first_broken};
 ghost use Rattle.state_tables.specs.Connections.{IsLawfulNext};
 ghost use Rattle.state_incoming.specs.Grouped.{AreGrouped};
-ghost use Rattle.state_addresses.specs.Addressed.{IsAddressed};
+ghost use Rattle.state_tables.specs.Addressed.{IsAddressed};
 ghost use Rattle.state_incoming.specs.Held.{address_behind, held_begun, held_next, is_begun_served};
 ghost use Rattle.state_incoming.specs.HeldTables.{AreMovedBy, BeginsOrTouches, IsTable, MovesAt, count_of, held_in, number_at};
 ghost use Rattle.state_incoming.specs.HeldTouched.{EndWith};
@@ -26,7 +26,7 @@ use capture_form::RuleSet;
 use http_server::Log;
 use number_groups::NumberSet;
 use number_map::NumberMap;
-use state_addresses::Addresses;
+use state_tables::Addresses;
 use std::alloc::{AllocError, Global};
 use trace_values::{Event, Link};
 

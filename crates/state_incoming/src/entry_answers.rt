@@ -172,7 +172,8 @@ impl Deliveries {
         }
     }
 
-    pub(crate) fn octets(&self, number: u64) -> &[u8]
+    /// The octets of the message so far; none of a delivery that is not kept.
+    pub fn octets(&self, number: u64) -> &[u8]
         ensures { result.now ≡ entries.payload_of (held_in self.now number) }
     {
         match self.get(number) {

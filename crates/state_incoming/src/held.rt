@@ -533,7 +533,7 @@ pub(crate) fn first_address<'a>(
 }
 
 /// What stands behind the transfer that the event is.
-pub(crate) fn payload_of<'a>(event: &Event<'_, '_, 'a>) -> &'a [u8]
+pub fn payload_of<'a>(event: &Event<'_, '_, 'a>) -> &'a [u8]
     ensures { result.now ≡ law.part_payload (in_spoken (event_view event.now)) }
 {
     match event.in_spoken() {

@@ -5,12 +5,10 @@
 //! - `groups`: which of those that are kept arrive, are undecided, or wait;
 //! - `touched`: which of them an event may touch;
 //! - `deliveries`: all of them, by number, until they are let go;
-//! - `completed`: the address of the delivery that an event completes;
 //! - `entry_answers`: what their entries answer to the questions of `trace_judge`;
 //! - `group_answers`: what their groups answer to the questions of `trace_judge`.
 #![tactic(auto)]
 
-mod completed;
 mod deliveries;
 mod entry_answers;
 mod group_answers;
@@ -18,7 +16,6 @@ mod groups;
 mod held;
 mod touched;
 
-pub use completed::CompletedAddress;
 pub use deliveries::Deliveries;
 pub use groups::HeldGroups;
-pub use held::{Fate, HeldDelivery};
+pub use held::{Fate, HeldDelivery, payload_of};

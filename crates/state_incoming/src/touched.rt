@@ -12,8 +12,7 @@ ghost use Rattle.trace_values.specs.View.{event_view, link_view};
 use crate::groups::HeldGroups;
 use amqp_perf::Role;
 use number_groups::{NumberSet, OctetGroups};
-use state_addresses::Addresses;
-use state_tables::{add_group, add_number};
+use state_tables::{Addresses, add_group, add_number};
 use std::alloc::{AllocError, Global};
 use trace_values::{Event, Link};
 
