@@ -15,12 +15,21 @@ use Rattle.state_incoming.specs.HeldTables.{AreHeld, AreOver, held_in}
 use Rattle.state_incoming.specs.declared.deliveries.Deliveries.{Deliveries}
 use Rattle.state_incoming.proofs.OverKnown.{kept-law}
 use Rattle.state_incoming.proofs.OverLasts.{begins-kept}
+use Rattle.state_outgoing.specs.LastBegun.{is_last_let_go, last_on}
 
 -- where nothing was let go no note names such a one
 pub nothing-named : (gone : List (ℕ × Unit {0})) → gone ≡ [] → (note : Note) → names_let_go gone note ≡ false
 nothing-named gone none (notes.Pair n) = ap (λ (items : List (ℕ × Unit {0})). is_let_go items n) none
 nothing-named gone none notes.None = refl
 nothing-named gone none (notes.Told why) = refl
+
+-- so what the last one on a link carries was not let go
+pub nothing-last : (gone : List (ℕ × Unit {0})) → gone ≡ [] → (link : ℕ) (past : List Event) → is_last_let_go gone link past ≡ false
+nothing-last gone none link past = by (last_on link past)
+  where
+    by : (o : Option Outgoing) → is_some_and o (λ j. names_let_go gone j.note) ≡ false
+    by None = refl
+    by (Some j) = nothing-named gone none j.note
 
 -- what the table of deliveries from clients can tell of, neither table let go
 pub known-kept : (rules : RuleSet) (past : List Event) (table : Deliveries) → AreHeld rules table past → (d : Incoming) → Knows table d → (gone : List (ℕ × Unit {0})) → gone ≡ table.let_go.items

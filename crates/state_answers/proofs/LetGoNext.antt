@@ -30,6 +30,14 @@ pub placed : (f : ℕ → Bool) (o : Option ℕ) (m : ℕ) → Some m ≡ where_
 placed f None m is = absurd cc
 placed f (Some n) m is = ap Some (sym (at-place f (Some n) m n is refl))
 
+-- where nobody passes there, whoever is there does not
+pub nobody-passes : (f : ℕ → Bool) (o : Option ℕ) (n : ℕ) → ◌≡◌ {A = Option ℕ} None (where_passes f o) → o ≡ Some n → f n ≡ true → true ≡ false
+nobody-passes f o n is at passes = by (f n) (is ∙ ap (where_passes f) at) passes
+  where
+    by : (b : Bool) → ◌≡◌ {A = Option ℕ} None (if b then Some n else None) → b ≡ true → true ≡ false
+    by true is passes = absurd cc
+    by false is passes = absurd cc
+
 -- no table let it go
 pub spent-kept : (rules : RuleSet) (past : List Event) (table : Deliveries) → AreHeld rules table past → (n : ℕ) → is_some_and (held_in table n) is_spent ≡ true
     → (gone : List (ℕ × Unit {0})) → gone ≡ table.let_go.items → is_let_go gone n ≡ false

@@ -16,10 +16,10 @@ use Rattle.state_outgoing.specs.declared.deliveries.SentDeliveries.{SentDeliveri
 use Rattle.state_outgoing.proofs.AnswersKnown.{progress-knows}
 use Rattle.state_tables.specs.declared.connections.Connections.{Connections}
 use Rattle.state_tables.specs.declared.links.Links.{Links}
-use Rattle.state_addresses.specs.declared.consumers.Consumers.{Consumers}
-use Rattle.state_addresses.specs.declared.consumer_links.ConsumerLinks.{ConsumerLinks}
+use Rattle.state_tables.specs.declared.consumers.Consumers.{Consumers}
+use Rattle.state_tables.specs.declared.consumer_links.ConsumerLinks.{ConsumerLinks}
 use Rattle.state_incoming.specs.declared.deliveries.Deliveries.{Deliveries}
-use Rattle.state_addresses.specs.declared.copies.Copies.{Copies}
+use Rattle.state_tables.specs.declared.copies.Copies.{Copies}
 use Rattle.state_verdicts.specs.declared.verdicts.Verdicts.{Verdicts}
 use Rattle.state_answers.specs.Tables.{StandFor}
 use Rattle.state_answers.proofs.CarriedKnown.{carries-known}

@@ -1,1 +1,3 @@
+pub mod Completed
 pub mod Tables
+pub mod Effects

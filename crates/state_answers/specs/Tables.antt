@@ -1,6 +1,6 @@
 -- What the tables stand for, all of them.
-use Rattle.std.specs.Prelude.{◌≡◌, ℕ, ◌+◌, true, false, List, [], ◌∷◌, None, is_some, nat_eq, nat_lt, if◌then◌else◌}
-use Rattle.std.specs.List.{list_all}
+use Rattle.std.specs.Prelude.{◌≡◌, ◌⊎◌, ℕ, Bool, ◌+◌, true, false, List, [], ◌∷◌, ◌++◌, Some, None, is_some, nat_eq, nat_lt, if◌then◌else◌}
+use Rattle.std.specs.List.{list_all, list_any}
 use Rattle.capture_form.specs.Rules.{RuleSet}
 use Rattle.number_groups.specs.Groups.{is_member}
 use Rattle.trace_events.specs.Words.{is_some_and}
@@ -13,18 +13,19 @@ use Rattle.state_tables.specs.Entries.{capped, entries_of_connections, entries_o
 use Rattle.state_tables.specs.LinkTables.{AreLinked}
 use Rattle.state_tables.specs.declared.connections.Connections.{Connections}
 use Rattle.state_tables.specs.declared.links.Links.{Links}
-use Rattle.state_addresses.specs.Consumers.{AreConsumers}
-use Rattle.state_addresses.specs.declared.consumers.Consumers.{Consumers}
-use Rattle.state_addresses.specs.ConsumerLinks.{AreConsumerLinks}
-use Rattle.state_addresses.specs.declared.consumer_links.ConsumerLinks.{ConsumerLinks}
-use Rattle.state_incoming.specs.HeldTables.{IsTable, count_of, held_in}
+use Rattle.state_tables.specs.Consumers.{AreConsumers}
+use Rattle.state_tables.specs.declared.consumers.Consumers.{Consumers}
+use Rattle.state_tables.specs.ConsumerLinks.{AreConsumerLinks, consumer_at}
+use Rattle.state_tables.specs.declared.consumer_links.ConsumerLinks.{ConsumerLinks}
+use Rattle.state_incoming.specs.HeldTables.{IsTable, count_of, held_in, number_at}
 use Rattle.state_incoming.specs.LetGo.{is_spent}
 use Rattle.state_incoming.specs.declared.deliveries.Deliveries.{Deliveries}
-use Rattle.state_addresses.specs.Copies.{AreCopies}
-use Rattle.state_addresses.specs.declared.copies.Copies.{Copies}
+use Rattle.state_tables.specs.Copies.{AreCopies}
+use Rattle.state_tables.specs.declared.copies.Copies.{Copies}
 use Rattle.state_outgoing.specs.Carriers.{carriers_in}
+use Rattle.state_outgoing.specs.LastBegun.{is_last_let_go}
 use Rattle.state_outgoing.specs.SentTables as sent_tables
-use Rattle.state_outgoing.specs.SentTables.{is_done_in}
+use Rattle.state_outgoing.specs.SentTables.{is_done_in, is_last_in}
 use Rattle.state_outgoing.specs.declared.deliveries.SentDeliveries.{SentDeliveries}
 use Rattle.state_verdicts.specs.Verdicts.{AreVerdicts}
 use Rattle.state_verdicts.specs.declared.verdicts.Verdicts.{Verdicts}
@@ -63,6 +64,23 @@ pub record IsReady (tables : Tables) (n : ℕ) : Type 0 where
   pub spent : is_some_and (held_in tables.deliveries n) is_spent ≡ true
   pub copied : (link : ℕ) → is_member nat_eq tables.verdicts.of_delivery n link ≡ false
   pub finished : list_all (is_done_in tables.sent) (carriers_in tables.sent.begun n) ≡ true
+
+-- of no live link of a consumer the last delivery carries one that was let go
+abbrev pub KeepsLast : List (ℕ × Unit {0}) → List Event → Type 0
+KeepsLast gone past = (link : ℕ) → is_some (consumer_at link past) ≡ true → is_last_let_go gone link past ≡ false
+
+-- from one moment to the other nothing is let go but the delivery that has its turn, where it is spent
+abbrev pub LetsGoAtMost : Tables → Tables → Type 0
+LetsGoAtMost earlier later =
+    (later.deliveries.let_go.items ≡ earlier.deliveries.let_go.items)
+    ⊎ ((n : ℕ) × ((number_at earlier.deliveries earlier.turn ≡ Some n)
+    × ((is_some_and (held_in earlier.deliveries n) is_spent ≡ true) × (later.deliveries.let_go.items ≡ earlier.deliveries.let_go.items ++ (n, tt) ∷ []))))
+
+-- one of those that carry the delivery which has its turn is the last on a live link of a consumer
+abbrev pub IsTurnOfLast : Tables → Bool → Type 0
+IsTurnOfLast tables result =
+    result ≡ false → (n : ℕ) → number_at tables.deliveries tables.turn ≡ Some n → is_some_and (held_in tables.deliveries n) is_spent ≡ true
+    → list_any (is_last_in tables.sent tables.consumer_links) (carriers_in tables.sent.begun n) ≡ false
 
 -- the place that has its turn behind the one that has it now
 abbrev pub turn_behind : Tables → ℕ

@@ -5,10 +5,9 @@ mod outcomes;
 
 use amqp_perf::Begin;
 use capture_form::RuleSet;
-use state_addresses::{ConsumerLinks, Consumers, Copies};
 use state_incoming::Deliveries;
 use state_outgoing::SentDeliveries;
-use state_tables::{Connections, Links};
+use state_tables::{Connections, ConsumerLinks, Consumers, Copies, Links};
 use state_verdicts::Verdicts;
 use trace_events::Session;
 use trace_judge::{Counts, History, Inputs, Openings, Questions};
@@ -33,7 +32,7 @@ impl<'t> History for LentTables<'t> {
     ghost use Rattle.std.specs.Prelude.{◌≡◌, is_some, true};
     ghost use Rattle.trace_clauses.specs.LinkClause.{asking};
     ghost use Rattle.trace_events.specs.Session.{has_unanswered_begin};
-    ghost use Rattle.state_answers.specs.Tables.{IsWhole, StandFor};
+    ghost use Rattle.state_answers.specs.Tables.{IsWhole, KeepsLast, StandFor};
     ghost use Rattle.state_incoming.specs.EntryAnswers.{Knows, has_entry};
     ghost use Rattle.state_outgoing.specs.SentAnswers.{KnowsOrBegins};
 
@@ -54,6 +53,8 @@ impl<'t> History for LentTables<'t> {
     ghost is_short = { λ tables. Unit {0} };
 
     ghost is_whole = { λ tables. IsWhole tables.deliveries.now };
+
+    ghost keeps_last = { λ tables history. KeepsLast tables.deliveries.now.let_go.items history };
 }
 
 impl<'t> Inputs<'t> for LentTables<'t> {

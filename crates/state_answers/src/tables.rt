@@ -4,18 +4,18 @@ ghost use Rattle.std.specs.Prelude.{◌≡◌, ◌∷◌, ◌++◌, ℕ, List, [
 ghost use Rattle.capture_form.specs.Rules.{RuleSet};
 ghost use Rattle.capture_form.specs.declared.records.Record.{Record};
 ghost use Rattle.trace_events.specs.History.{history};
-ghost use Rattle.state_addresses.specs.Addressed.{IsAddressed};
+ghost use Rattle.state_tables.specs.Addressed.{IsAddressed};
 ghost use Rattle.state_tables.specs.Connections.{IsLawfulNext};
-ghost use Rattle.state_answers.specs.Tables.{AreTables, AreWhole, IsWhole, IsReady, StandFor, completed_with, entries_of, kept_in, turn_behind};
+ghost use Rattle.state_answers.specs.Tables.{AreTables, AreWhole, IsReady, IsTurnOfLast, IsWhole, KeepsLast, LetsGoAtMost, StandFor, completed_with, entries_of, kept_in, turn_behind};
 ghost use Rattle.state_incoming.specs.HeldTables.{number_at};
 ghost use Rattle.trace_values.specs.View.{Events, event_view};
 
+use crate::completed::completed_for;
 use crate::lent_tables::LentTables;
 use capture_form::RuleSet;
-use state_addresses::{ConsumerLinks, Consumers, Copies, receivers_of};
 use state_incoming::Deliveries;
 use state_outgoing::SentDeliveries;
-use state_tables::{Connections, Links};
+use state_tables::{Connections, ConsumerLinks, Consumers, Copies, Links, receivers_of};
 use state_verdicts::Verdicts;
 use std::alloc::{AllocError, Global};
 use trace_values::Event;
@@ -71,6 +71,7 @@ impl Tables {
     pub fn new(alloc: Global) -> Tables
         ensures stand { (rules : RuleSet) → AreTables rules result [] }
         ensures whole { AreWhole result }
+        ensures last { KeepsLast result.deliveries.let_go.items [] }
         ensures counted { result.completed ≡ 0 }
     {
         Tables {
@@ -94,6 +95,7 @@ impl Tables {
             StandFor rules result.connections.now result.links.now result.consumers.now result.deliveries.now
             result.consumer_links.now result.copies.now result.sent.now result.verdicts.now history }
         ensures whole { AreWhole self.now → IsWhole result.deliveries.now }
+        ensures last { (history : Events) → KeepsLast self.now.deliveries.let_go.items history → KeepsLast result.deliveries.now.let_go.items history }
     {
         LentTables {
             connections: &self.connections,
@@ -142,13 +144,16 @@ impl Tables {
             AreTables rules.now self.old (history rules.now records) →
             AreTables rules.now self.new (event_view event.now ∷ history rules.now records)) }
         ensures whole { OnOk result (AreWhole self.old → AreWhole self.new) }
+        ensures last { OnOk result ((records : List Record) (r : Record) → IsLawfulNext rules.now records r (event_view event.now) →
+            AreTables rules.now self.old (history rules.now records) → KeepsLast self.old.deliveries.let_go.items (history rules.now records) →
+            KeepsLast self.new.deliveries.let_go.items (event_view event.now ∷ history rules.now records)) }
     {
-        let completed = self.deliveries.completed_for(event);
+        let completed = completed_for(&self.deliveries, event);
         self.take_addressed(rules, event, completed.octets())?;
         Ok(())
     }
 
-    /// The event follows those so far; what it completes is for this address, as `Deliveries::completed_for` tells.
+    /// The event follows those so far; what it completes is for this address, as `completed_for` tells.
     ///
     /// # Errors
     ///
@@ -164,6 +169,9 @@ impl Tables {
             AreTables rules.now self.old (history rules.now records) →
             AreTables rules.now self.new (event_view event.now ∷ history rules.now records)) }
         ensures whole { OnOk result (AreWhole self.old → AreWhole self.new) }
+        ensures last { OnOk result ((records : List Record) (r : Record) → IsLawfulNext rules.now records r (event_view event.now) →
+            AreTables rules.now self.old (history rules.now records) → KeepsLast self.old.deliveries.let_go.items (history rules.now records) →
+            KeepsLast self.new.deliveries.let_go.items (event_view event.now ∷ history rules.now records)) }
         ensures counted { OnOk result (self.new.completed ≡ completed_with (event_view event.now) self.old.completed) }
     {
         let ended = self.links.ended(self.alloc, event)?;
@@ -204,6 +212,7 @@ impl Tables {
             self.new.deliveries.let_go.items ≡ self.old.deliveries.let_go.items ++ (n, tt) ∷ [] }
         ensures turns { ((n : ℕ) → number_at self.old.deliveries self.old.turn ≡ Some n → IsReady self.old n → ⊥) →
             self.new.turn ≡ turn_behind self.old }
+        ensures most { LetsGoAtMost self.old self.new }
         ensures counted { self.new.completed ≡ self.old.completed }
     {
         match self.deliveries.spent_at(self.turn) {
@@ -214,6 +223,32 @@ impl Tables {
                 self.verdicts.let_go(number);
             }
             _ => self.turn = self.turn_behind(),
+        }
+    }
+
+    /// The same, but where a delivery that carries the one whose turn it is began last on a live link of a consumer, the next one
+    /// has its turn. So what the next transfer on a link carries can be compared with what the one before it did.
+    pub fn let_go_next_but_last(&mut self)
+        ensures stand { (rules : RuleSet) (records : List Record) → AreTables rules self.old (history rules records) →
+            AreTables rules self.new (history rules records) }
+        ensures last { (rules : RuleSet) (records : List Record) → AreTables rules self.old (history rules records) →
+            KeepsLast self.old.deliveries.let_go.items (history rules records) → KeepsLast self.new.deliveries.let_go.items (history rules records) }
+        ensures counted { self.new.completed ≡ self.old.completed }
+    {
+        if self.has_last_turn() {
+            self.turn = self.turn_behind();
+        } else {
+            self.let_go_next();
+        }
+    }
+
+    /// The delivery whose turn it is is spent, and one that carries it began last on a live link of a consumer.
+    fn has_last_turn(&self) -> bool
+        ensures { IsTurnOfLast self.now result }
+    {
+        match self.deliveries.spent_at(self.turn) {
+            Some(number) => self.sent.is_carried_last(number, &self.consumer_links),
+            None => false,
         }
     }
 

@@ -3,7 +3,7 @@ use Rattle.trace_events.specs.Due.{has_unsent}
 use Rattle.trace_events.specs.Event.{Event}
 use Rattle.trace_events.specs.Link.{IsLiveLink}
 use Rattle.trace_values.specs.View.{link_view}
-use Rattle.state_addresses.specs.Copies.{AreCopies}
+use Rattle.state_tables.specs.Copies.{AreCopies}
 use Rattle.state_answers.proofs.lent_tables.LentTablesCounts.has_unsent.Goals as goal
 
 pub returns : goal.returns

@@ -1,4 +1,4 @@
-use Rattle.std.proofs.Common.{◌≡◌, sym, ap, ◌∙◌, ℕ, true, List, [], ◌∷◌, ◌++◌, Some}
+use Rattle.std.proofs.Common.{◌≡◌, inr, sym, ap, ◌∙◌, ℕ, true, List, [], ◌∷◌, ◌++◌, Some}
 use Rattle.std.specs.Prelude.{Contains}
 use Rattle.trace_events.specs.Words.{is_some_and}
 use Rattle.trace_events.specs.Event.{Outgoing}
@@ -79,3 +79,10 @@ returns-in-Some-clause-turns c = λ none.
       copied = c.has_all_of.ensures.none.0 c.if-has_all_of.true;
       finished = sym c.has_finished.ensures.stored ∙ c.if-has_finished.true;
     }))
+
+pub returns-in-Some-clause-most : goal.returns-in-Some-clause-most
+returns-in-Some-clause-most c =
+    let deliveries = c.args.self.now.deliveries in
+    let here : number_at deliveries c.args.self.now.turn ≡ Some c.in-Some.number =
+    placed (λ m. is_some_and (held_in deliveries m) is_spent) (number_at deliveries c.args.self.now.turn) c.in-Some.number c.in-Some.ensures.stored in
+    inr (c.in-Some.number, (here, (c.in-Some.ensures.spent, c.let_go.ensures.gone)))

@@ -1,15 +1,17 @@
-use Rattle.std.proofs.Common.{sym, subst, ◌∙◌, ◌∷◌, ℕ, List}
+use Rattle.std.proofs.Common.{refl, sym, subst, ◌∙◌, ◌∷◌, ℕ, List}
 use Rattle.trace_events.specs.History.{history}
 use Rattle.trace_events.proofs.Judged.{AreJudged, history-judged}
 use Rattle.trace_clauses.proofs.JudgedHistories.{judged-history}
 use Rattle.trace_values.specs.View.{event_view}
 use Rattle.trace_values.specs.declared.event.Link.{Link}
 use Rattle.state_tables.specs.EndedLinks.{AreEnded, views}
-use Rattle.state_addresses.proofs.ConsumersOf.{are-served}
-use Rattle.state_addresses.specs.Copies.{AreDue, AreReceivers}
-use Rattle.state_addresses.specs.declared.copies.Receiver.{Receiver}
+use Rattle.state_tables.proofs.ConsumersOf.{are-served}
+use Rattle.state_tables.specs.Copies.{AreDue, AreReceivers}
+use Rattle.state_tables.specs.declared.copies.Receiver.{Receiver}
 use Rattle.state_verdicts.specs.Verdicts.{AreGiven}
 use Rattle.state_verdicts.specs.declared.verdicts.CopyVerdict.{CopyVerdict}
+use Rattle.state_answers.specs.Tables.{KeepsLast}
+use Rattle.state_answers.proofs.LastsKept.{keeps-next}
 use Rattle.state_answers.proofs.LetGoKnown.{begins-apart}
 use Rattle.state_answers.proofs.tables.Tables.take_addressed.Goals as goal
 
@@ -49,3 +51,13 @@ returns-clause-stand c = λ records r next own tables.
       judged-history rules (e ∷ past) are,
       (c.in_ok-take-7.ensures.kept rules records r next tables.1.0, (c.in_ok-take-6.ensures.kept rules records r next.0 linked, (consuming, (held, (links, (copies, (next.1, (sent, (verdicts, (c.in_ok-given.ensures.gone ∙ (alike.0 ∙ sym c.in_ok-take-2.ensures.gone), c.in_ok-take-5.ensures.gone ∙ (alike.1 ∙ sym c.in_ok-take-2.ensures.gone))))))))))),
     )
+
+pub returns-clause-last : goal.returns-clause-last
+returns-clause-last c = λ records r next tables keeps.
+    let rules = c.args.rules.now in
+    let e = event_view c.args.event.now in
+    let past = history rules records in
+    let are : AreJudged rules (e ∷ past) = ((r, next.0), history-judged rules records) in
+    let apart = begins-apart rules e past are next.1 c.args.self.now.deliveries tables.1.1.1.1.0.1.1 c.args.self.now.deliveries.let_go.items refl in
+    subst (λ (gone : List (ℕ × Unit {0})). KeepsLast gone (e ∷ past)) (sym c.in_ok-take-2.ensures.gone)
+    (keeps-next rules e past are _ (c.in_ok-ended.ensures rules records r next.0 tables.1.1.0) c.args.self.now.deliveries.let_go.items apart keeps)

@@ -7,3 +7,6 @@ returns-clause-value c = λ past stands whole.
 
 pub returns-clause-known : goal.returns-clause-known
 returns-clause-known c = λ past stands. c.to_carry.ensures.known c.args._rules.now past stands.1.1.1.1.0.0
+
+pub returns-clause-found : goal.returns-clause-found
+returns-clause-found c = λ past stands. c.to_carry.ensures.given c.args._rules.now past stands.1.1.1.1.0.0

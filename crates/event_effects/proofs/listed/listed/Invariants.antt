@@ -1,9 +1,0 @@
-use Rattle.std.proofs.Common.{length}
-use Rattle.event_effects.proofs.Moved.{AreMoved}
-use Rattle.event_effects.proofs.listed.listed.Given as goal
-
-abbrev pub invariant-loop-number : goal.invariant-loop-number
-invariant-loop-number l = AreMoved l.fn.numbers l.numbers l.list.items
-
-abbrev pub decreases-loop-number : goal.decreases-loop-number
-decreases-loop-number l = length l.numbers
