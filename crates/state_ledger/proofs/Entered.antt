@@ -21,11 +21,15 @@ module _ (rules : RuleSet) (records : List Record) (r : Record) where
   pub lawful-next : (e : Event) → e ≡ judge rules past r → first_broken rules past ≡ None → broken_behind rules records r ≡ None → IsLawfulNext rules records r e
   lawful-next e same lawful unbroken = (same, ap (λ (x : Event). first_broken rules (x ∷ past)) same ∙ rw (lawful, unbroken) refl)
 
+  -- behind it stand the event and those before it
+  pub longer-past : (e : Event) → e ≡ judge rules past r → e ∷ past ≡ history rules (records ++ r ∷ [])
+  longer-past e same = ap (λ (x : Event). x ∷ past) same ∙ sym (history-push rules records r)
+
   -- tables and tally of the event and those before it are those of the longer capture
   pub longer : (tables : Tables) (tally : Tally) (e : Event) → e ≡ judge rules past r → AreTables rules tables (e ∷ past) → tally ≡ tally_of (e ∷ past)
       → AreTables rules tables (history rules (records ++ r ∷ [])) × (tally ≡ tally_of (history rules (records ++ r ∷ [])))
   longer tables tally e same are counted =
-      let on : e ∷ past ≡ history rules (records ++ r ∷ []) = ap (λ (x : Event). x ∷ past) same ∙ sym (history-push rules records r) in
+      let on = longer-past e same in
       (subst (λ (p : List Event). AreTables rules tables p) on are, counted ∙ ap tally_of on)
 
   -- so many records are counted

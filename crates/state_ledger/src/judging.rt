@@ -1,6 +1,6 @@
 //! The next record of a capture, judged by whoever can tell of those before it.
 
-ghost use Rattle.std.specs.Prelude.{◌≡◌, ◌≢◌, None, IfErr, length};
+ghost use Rattle.std.specs.Prelude.{OnOk, ◌≡◌, ◌≢◌, None, IfErr, length};
 ghost use Rattle.trace_clauses.specs.Clauses as law;
 ghost use Rattle.trace_events.specs.History.{moment_of};
 ghost use Rattle.state_ledger.specs.HeldEvents.{held_event_view};
@@ -35,6 +35,12 @@ pub fn hold_next<'a, 'm: 'a, P: Questions<'a>>(
         (law.broken_clause rules.now (unopened rules.now history entry.now) history ≡ None →
         OpensKnown (λ c channel. P.knows_begin past.now c channel history) (λ s handle. P.knows_attach past.now s handle history) (unopened rules.now history entry.now)) →
         IsHeldAnswer rules.now history entry.now (held_event_view held.new (moment_of entry.now.what)) result }
+    // Where what links carried last is kept, what is held is lawful, whatever was let go.
+    ensures last { OnOk result ((history : Events) → P.stands_for past.now rules.now history → P.keeps_last past.now history → number ≡ length history →
+        CarriesKnown (λ n. P.knows_number past.now n history) (λ j. P.knows_outgoing past.now j history) (unopened rules.now history entry.now) →
+        (law.broken_clause rules.now (unopened rules.now history entry.now) history ≡ None →
+        OpensKnown (λ c channel. P.knows_begin past.now c channel history) (λ s handle. P.knows_attach past.now s handle history) (unopened rules.now history entry.now)) →
+        IsHeldAnswer rules.now history entry.now (held_event_view held.new (moment_of entry.now.what)) result) }
     ensures same { IfErr result (λ why. why ≢ Memory → held.new ≡ held.old) }
 {
     let mut event = judge_unopened(past, rules, number, entry);

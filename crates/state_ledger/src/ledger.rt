@@ -1,11 +1,11 @@
 //! What the records of a capture have come to.
 
-ghost use Rattle.std.specs.Prelude.{◌≡◌, ◌≢◌, ◌<◌, ◌^◌, ◌∷◌, [], ◌++◌, List, None, IfErr, IfOk, OnOk, length};
+ghost use Rattle.std.specs.Prelude.{◌≡◌, ◌≢◌, ◌<◌, ◌^◌, ◌∷◌, [], ◌++◌, List, None, IfErr, IfOk, OnOk, false, true, length};
 ghost use Rattle.capture_form.specs.Rules.{RuleSet};
 ghost use Rattle.capture_form.specs.declared.records.Record.{Record};
 ghost use Rattle.trace_events.specs.History.{history, moment_of};
 ghost use Rattle.state_tables.specs.Connections.{IsLawfulNext};
-ghost use Rattle.state_answers.specs.Tables.{AreTables, AreWhole, IsWhole, StandFor, entries_of};
+ghost use Rattle.state_answers.specs.Tables.{AreTables, AreWhole, IsWhole, KeepsLast, StandFor, entries_of};
 ghost use Rattle.state_ledger.specs.HeldEvents.{held_event_view};
 ghost use Rattle.state_ledger.specs.declared.not_entered.NotEntered.TheVariants.{Memory};
 ghost use Rattle.state_ledger.specs.Ledger.{IsReason, Stands, broken_behind};
@@ -25,6 +25,8 @@ pub struct Ledger {
     tally: Tally,
     // The event of the record that is entered.
     held: HeldEvent,
+    // Deliveries of which nothing can come any more are let go.
+    forgets: bool,
 }
 
 // Written out, and not derived, so that where one is let go the prover need not go through all that it owns.
@@ -35,14 +37,32 @@ impl Drop for Ledger {
             tables: _,
             tally: _,
             held: _,
+            forgets: _,
         } = self;
     }
 }
 
 impl Ledger {
-    /// No records. It takes no memory.
+    /// No records, all of which it is to keep what matters of. It takes no memory.
     pub fn new(alloc: Global) -> Ledger
-        ensures { (rules : RuleSet) → Stands rules result [] }
+        ensures stand { (rules : RuleSet) → Stands rules result [] }
+        ensures keeps { result.forgets ≡ false }
+    {
+        Ledger::made(alloc, false)
+    }
+
+    /// No records. It is to let go of what a lawful record cannot name any more, so that its memory does not grow with the capture;
+    /// of a record that it refuses it cannot say which clause it breaks, nor that it breaks one. It takes no memory.
+    pub fn forgetting(alloc: Global) -> Ledger
+        ensures stand { (rules : RuleSet) → Stands rules result [] }
+        ensures forgets { result.forgets ≡ true }
+    {
+        Ledger::made(alloc, true)
+    }
+
+    fn made(alloc: Global, forgets: bool) -> Ledger
+        ensures stand { (rules : RuleSet) → Stands rules result [] }
+        ensures forgets { result.forgets ≡ forgets }
     {
         Ledger {
             alloc,
@@ -53,7 +73,15 @@ impl Ledger {
                 outcomes: 0,
             },
             held: HeldEvent::new(),
+            forgets,
         }
+    }
+
+    /// It lets go of what a lawful record cannot name any more.
+    pub fn forgets(&self) -> bool
+        ensures { result ≡ self.now.forgets }
+    {
+        self.forgets
     }
 
     /// What the records so far hold.
@@ -68,7 +96,7 @@ impl Ledger {
         ensures stand { (rules : RuleSet) (records : List Record) → Stands rules self.now records →
             StandFor rules result.connections.now result.links.now result.consumers.now result.deliveries.now
             result.consumer_links.now result.copies.now result.sent.now result.verdicts.now (history rules records) }
-        ensures whole { (rules : RuleSet) (records : List Record) → Stands rules self.now records → IsWhole result.deliveries.now }
+        ensures whole { (rules : RuleSet) (records : List Record) → Stands rules self.now records → self.now.forgets ≡ false → IsWhole result.deliveries.now }
     {
         self.tables.looked()
     }
@@ -84,13 +112,14 @@ impl Ledger {
     ///
     /// # Errors
     ///
-    /// The first clause that it breaks; then the ledger is as it was. Or memory was refused; then it may agree with no records
-    /// any more.
+    /// The first clause that it breaks; then the ledger is as it was. One that forgets names some clause, and the record need not
+    /// break it. Or memory was refused; then it may agree with no records any more.
     pub fn enter(&mut self, rules: &RuleSet, entry: &Record) -> Result<(), NotEntered>
         requires few { self.old.tally.records < 2 ^ 63 }
         ensures met { OnOk result ((records : List Record) → Stands rules.now self.old records → broken_behind rules.now records entry.now ≡ None) }
         ensures entered { OnOk result ((records : List Record) → Stands rules.now self.old records → Stands rules.now self.new (records ++ entry.now ∷ [])) }
-        ensures reason { IfErr result (λ why. (records : List Record) → Stands rules.now self.old records → IsReason rules.now records entry.now why) }
+        ensures reason { IfErr result (λ why. self.old.forgets ≡ false → (records : List Record) → Stands rules.now self.old records → IsReason rules.now records entry.now why) }
+        ensures alike { self.new.forgets ≡ self.old.forgets }
         ensures same { IfErr result (λ why. why ≢ Memory → self.new ≡ self.old) }
     {
         let number = self.tally.records;
@@ -109,14 +138,26 @@ impl Ledger {
 
     /// The record, of which the event is held and with which the capture is lawful, follows those so far.
     fn follow(&mut self, rules: &RuleSet, entry: &ReadRecord<'_>) -> Result<(), AllocError>
-        ensures { OnOk result (self.old.tally.records < 2 ^ 63 → (records : List Record) →
+        ensures stand { OnOk result (self.old.tally.records < 2 ^ 63 → (records : List Record) →
             IsLawfulNext rules.now records entry.now (held_event_view self.old.held (moment_of entry.now.what)) →
             Stands rules.now self.old records → Stands rules.now self.new (records ++ entry.now ∷ [])) }
+        ensures alike { self.new.forgets ≡ self.old.forgets }
     {
         let event = self.held.event(entry);
         self.tables.take(rules, &event)?;
         self.tally = counted(self.tally, &event);
+        self.forget();
         Ok(())
+    }
+
+    /// A delivery is let go of, where this one forgets and nothing can come of it any more.
+    fn forget(&mut self)
+        ensures stand { (rules : RuleSet) (records : List Record) → Stands rules self.old records → Stands rules self.new records }
+        ensures alike { self.new.forgets ≡ self.old.forgets }
+    {
+        if self.forgets {
+            self.tables.let_go_next_but_last();
+        }
     }
 }
 
@@ -133,9 +174,9 @@ fn hold_event<'a, 'm: 'a>(
     number: u64,
     entry: &ReadRecord<'m>,
 ) -> Result<(), NotEntered>
-    ensures lawful { OnOk result ((records : List Record) → AreTables rules.now tables.now (history rules.now records) → AreWhole tables.now → number ≡ length (history rules.now records) →
+    ensures lawful { OnOk result ((records : List Record) → AreTables rules.now tables.now (history rules.now records) → KeepsLast tables.now.deliveries.let_go.items (history rules.now records) → number ≡ length (history rules.now records) →
         IsLawfulNext rules.now records entry.now (held_event_view held.new (moment_of entry.now.what))) }
-    ensures met { OnOk result ((records : List Record) → AreTables rules.now tables.now (history rules.now records) → AreWhole tables.now → number ≡ length (history rules.now records) →
+    ensures met { OnOk result ((records : List Record) → AreTables rules.now tables.now (history rules.now records) → KeepsLast tables.now.deliveries.let_go.items (history rules.now records) → number ≡ length (history rules.now records) →
         broken_behind rules.now records entry.now ≡ None) }
     ensures reason { IfErr result (λ why. (records : List Record) → AreTables rules.now tables.now (history rules.now records) → AreWhole tables.now → number ≡ length (history rules.now records) →
         IsReason rules.now records entry.now why) }

@@ -1,5 +1,5 @@
 use Rattle.std.proofs.lemmas.Result.{err_from_is_err_and}
-use Rattle.std.proofs.Common.{◌≡◌, sym, ap, subst, ◌∙◌, true}
+use Rattle.std.proofs.Common.{◌≡◌, refl, sym, ap, subst, ◌∙◌, true}
 use Rattle.trace_clauses.specs.Clauses.{broken_clause}
 use Rattle.trace_events.specs.Event.{Event}
 use Rattle.trace_events.specs.History.{moment_of}
@@ -16,7 +16,7 @@ returns-in-Some-clause-answer g c = λ past stands whole numbered carries opens.
     let e = event_view c.judge_unopened-event.result in
     let is = c.judge_unopened-event.ensures past stands numbered in
     let Carries : Event → Type 0 = λ x. CarriesKnown (λ n. g.P.History.knows_number c.args.past.now n past) (λ j. g.P.History.knows_outgoing c.args.past.now j past) x in
-    let broken = c.in-Some.ensures past stands whole (stands-live rules past r e is) (names-live rules past r e is) (number-is rules past r e is) (subst Carries (sym is) carries) in
+    let broken = c.in-Some.ensures.whole past stands whole (stands-live rules past r e is) (names-live rules past r e is) (number-is rules past r e is) (subst Carries (sym is) carries) in
     sym (broken ∙ broken-is rules past r e is)
 
 pub returns-in_ok-keep-in-None-clause-answer : goal.returns-in_ok-keep-in-None-clause-answer
@@ -27,7 +27,7 @@ returns-in_ok-keep-in-None-clause-answer g c = λ past stands whole numbered car
     let is = c.judge_unopened-event.ensures past stands numbered in
     let Carries : Event → Type 0 = λ x. CarriesKnown (λ n. g.P.History.knows_number c.args.past.now n past) (λ j. g.P.History.knows_outgoing c.args.past.now j past) x in
     let Opens : Event → Type 0 = λ x. OpensKnown (λ n channel. g.P.History.knows_begin c.args.past.now n channel past) (λ s handle. g.P.History.knows_attach c.args.past.now s handle past) x in
-    let unbroken = c.in-None.ensures past stands whole (stands-live rules past r e is) (names-live rules past r e is) (number-is rules past r e is) (subst Carries (sym is) carries) in
+    let unbroken = c.in-None.ensures.whole past stands whole (stands-live rules past r e is) (names-live rules past r e is) (number-is rules past r e is) (subst Carries (sym is) carries) in
     let known = opens (sym (unbroken ∙ ap (λ (x : Event). broken_clause rules x past) is)) in
     let opened = c.open.ensures rules past stands (stands-live rules past r e is) (subst Opens (sym is) known) ∙ opened-is rules past r e is in
     (c.in_ok-keep-in-None.ensures.copied (moment_of r.what) ∙ at-moment rules past r (event_view c.open.new.event) opened, sym (unbroken ∙ broken-is rules past r e is))
@@ -40,9 +40,22 @@ returns-in_err-keep-in-None-clause-answer g c = λ past stands whole numbered ca
     let is = c.judge_unopened-event.ensures past stands numbered in
     let Carries : Event → Type 0 = λ x. CarriesKnown (λ n. g.P.History.knows_number c.args.past.now n past) (λ j. g.P.History.knows_outgoing c.args.past.now j past) x in
     let Opens : Event → Type 0 = λ x. OpensKnown (λ n channel. g.P.History.knows_begin c.args.past.now n channel past) (λ s handle. g.P.History.knows_attach c.args.past.now s handle past) x in
-    let unbroken = c.in-None.ensures past stands whole (stands-live rules past r e is) (names-live rules past r e is) (number-is rules past r e is) (subst Carries (sym is) carries) in
+    let unbroken = c.in-None.ensures.whole past stands whole (stands-live rules past r e is) (names-live rules past r e is) (number-is rules past r e is) (subst Carries (sym is) carries) in
     let known = opens (sym (unbroken ∙ ap (λ (x : Event). broken_clause rules x past) is)) in
     let opened = c.open.ensures rules past stands (stands-live rules past r e is) (subst Opens (sym is) known) ∙ opened-is rules past r e is in
     let HasParts : Event → Type 0 = λ x. has_parts (parts_of x) ≡ true in
     let p = err_from_is_err_and c.from_residual.result c.from_residual.ensures.1 in
     rw (p.1, p.2) (subst HasParts opened c.in_err-keep-in-None.ensures.refused, sym (unbroken ∙ broken-is rules past r e is))
+
+pub returns-in_ok-keep-in-None-clause-last : goal.returns-in_ok-keep-in-None-clause-last
+returns-in_ok-keep-in-None-clause-last g c = λ past stands keeps numbered carries opens.
+    let rules = c.args.rules.now in
+    let r = c.args.entry.now in
+    let e = event_view c.judge_unopened-event.result in
+    let is = c.judge_unopened-event.ensures past stands numbered in
+    let Carries : Event → Type 0 = λ x. CarriesKnown (λ n. g.P.History.knows_number c.args.past.now n past) (λ j. g.P.History.knows_outgoing c.args.past.now j past) x in
+    let Opens : Event → Type 0 = λ x. OpensKnown (λ n channel. g.P.History.knows_begin c.args.past.now n channel past) (λ s handle. g.P.History.knows_attach c.args.past.now s handle past) x in
+    let unbroken = c.in-None.ensures.last past stands keeps (stands-live rules past r e is) (names-live rules past r e is) (number-is rules past r e is) (subst Carries (sym is) carries) refl in
+    let known = opens (sym (ap (λ (x : Event). broken_clause rules x past) is) ∙ unbroken) in
+    let opened = c.open.ensures rules past stands (stands-live rules past r e is) (subst Opens (sym is) known) ∙ opened-is rules past r e is in
+    (c.in_ok-keep-in-None.ensures.copied (moment_of r.what) ∙ at-moment rules past r (event_view c.open.new.event) opened, sym (broken-is rules past r e is) ∙ unbroken)
