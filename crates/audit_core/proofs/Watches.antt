@@ -1,5 +1,5 @@
 -- What a watcher has seen of octets where their reading ends.
-use Rattle.std.proofs.Common.{◌≡◌, sym, ap, subst, ◌∙◌, ℕ, List, [], ◌∷◌, ◌++◌, length, Option, None, Some}
+use Rattle.std.proofs.Common.{◌≡◌, refl, sym, ap, Bool, true, false, subst, ◌∙◌, ℕ, List, [], ◌∷◌, ◌++◌, length, Option, None, Some}
 use Rattle.std.specs.Prelude.{◌≢◌, ◌<◌, Err, IfSome, is_ok}
 use Rattle.std.specs.Io.KnownBytes.{Consumes}
 use Rattle.std.proofs.lemmas.List.{append-nil}
@@ -16,18 +16,34 @@ use Rattle.capture_form.proofs.ReadingLaws.{headless}
 use Rattle.trace_clauses.specs.declared.clause.Clause.{Clause}
 use Rattle.trace_clauses.specs.declared.tally.Tally.{Tally}
 use Rattle.state_ledger.specs.declared.ledger.Ledger.{Ledger}
-use Rattle.state_ledger.specs.Ledger.{Stands}
+use Rattle.state_ledger.specs.Ledger.{Stands, StandsWhole}
 use Rattle.audit_core.specs.declared.auditor.Auditor.{Auditor}
 use Rattle.audit_core.specs.declared.verdict.Refusal.{Refusal}
 use Rattle.audit_core.specs.declared.verdict.Refusal.TheVariants.{Broken, Memory}
 use Rattle.audit_core.specs.declared.verdict.Verdict.{Verdict}
 use Rattle.audit_core.specs.declared.verdict.Verdict.TheVariants.{Accepted}
+use Rattle.audit_core.specs.declared.verdict.Verdict.TheVariants as verdicts
 use Rattle.audit_core.specs.Auditor.{IsRefusalBehind, StandsFor, rules_of}
-use Rattle.audit_core.specs.Verdict.{verdict_of_fault, verdict_of_refusal}
+use Rattle.audit_core.specs.Verdict.{is_sure, verdict_of_fault, verdict_of_refusal}
 use Rattle.audit_core.specs.Watching.{SawAll, Watched}
 use Rattle.audit_core.proofs.ReadSoFar.{ReadSoFar}
 use Rattle.audit_core.proofs.ReadSteps.{begins}
 use Rattle.audit_core.proofs.Streams.{longer_bounds, longer_begins, reads_to, rules_to}
+
+-- one that keeps all is sure of each verdict
+pub sure_kept : (verdict : Verdict) → is_sure false verdict ≡ true
+sure_kept (Accepted tally) = refl
+sure_kept (verdicts.Refused number clause) = refl
+sure_kept (verdicts.Malformed offset form_kind) = refl
+sure_kept (verdicts.NoMemory offset) = refl
+sure_kept (verdicts.Unreadable offset) = refl
+
+-- who refuses for want of memory says nothing of the record, and who is sure of a verdict keeps all
+pub sure_refusal : (forgets : Bool) (refusal : Refusal) (offset : ℕ) → is_sure forgets (verdict_of_refusal offset refusal) ≡ true
+    → ((Q : Refusal → Type 0) → Q Memory → (forgets ≡ false → Q refusal) → Q refusal)
+sure_refusal false refusal offset sure Q none keeps = keeps refl
+sure_refusal true Memory offset sure Q none keeps = none
+sure_refusal true (Broken number clause) offset sure Q none keeps = absurd cc
 
 pub no_want : (number : ℕ) (clause : Clause) → Broken number clause ≢ Memory
 no_want number clause e = cc
@@ -55,12 +71,12 @@ held_by auditor held ledger same own rules records stands =
 module _ {W : Type 0} (saw : W → RuleSet → List Record → Type 0) (refuses : W → RuleSet → List Record → Record → Type 0) where
   -- what is known behind the ledger's records is known behind those for which the auditor stands
   pub explained : (before after : W) (auditor : Auditor) (held : RuleSet) (ledger : Ledger) (entry : Record) → held ≡ rules_of auditor → ledger ≡ auditor.ledger
-      → ((records : List Record) → Stands held ledger records → saw before held records → refuses after held records entry)
+      → ((records : List Record) → StandsWhole held ledger records → saw before held records → refuses after held records entry) → ledger.forgets ≡ false
       → (rules : RuleSet) (records : List Record) → StandsFor auditor rules records → saw before rules records → refuses after rules records entry
-  explained before after auditor held ledger entry same own told rules records stands seen =
+  explained before after auditor held ledger entry same own told keeps rules records stands seen =
       let is : held ≡ rules = same ∙ stands.0 in
       let under = held_by auditor held ledger same own rules records stands in
-      subst (λ rl. refuses after rl records entry) is (told records under (subst (λ rl. saw before rl records) (sym is) seen))
+      subst (λ rl. refuses after rl records entry) is (told records (under, keeps) (subst (λ rl. saw before rl records) (sym is) seen))
 
   -- the same of a record that the ledger took
   pub seen_taken : (before after : W) (auditor : Auditor) (held : RuleSet) (ledger : Ledger) (entry : Record) → held ≡ rules_of auditor → ledger ≡ auditor.ledger

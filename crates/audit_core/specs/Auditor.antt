@@ -1,5 +1,5 @@
 -- What an auditor has come to: for which capture it stands, or at which refusal it stopped.
-use Rattle.std.specs.Prelude.{◌≡◌, ℕ, List, length, Option, Some, None, ⊤}
+use Rattle.std.specs.Prelude.{◌≡◌, ℕ, Bool, List, length, Option, Some, None, ⊤}
 use Rattle.capture_form.specs.declared.records.Record.{Record}
 use Rattle.capture_form.specs.Rules.{RuleSet}
 use Rattle.trace_clauses.specs.declared.tally.Tally.{Tally}
@@ -31,6 +31,10 @@ tally_by auditor = auditor.ledger.tally
 -- how many entries it has
 abbrev pub entries_by : Auditor → ℕ
 entries_by auditor = entries_of auditor.ledger.tables
+
+-- it lets go of what a lawful record cannot name any more
+abbrev pub forgets_by : Auditor → Bool
+forgets_by auditor = auditor.ledger.forgets
 
 -- the refusal at which it stopped
 abbrev pub refusal_of : Auditor → Option Refusal

@@ -1,5 +1,5 @@
 -- What an auditor may say of octets.
-use Rattle.std.specs.Prelude.{◌≡◌, ℕ, ◌+◌, ◌<◌, List, ◌++◌, length, take, Option, Some, None, Result, Ok, Err, ◌⊎◌}
+use Rattle.std.specs.Prelude.{◌≡◌, ℕ, Bool, true, not, ◌+◌, ◌<◌, List, ◌++◌, length, take, Option, Some, None, Result, Ok, Err, ◌⊎◌}
 use Rattle.capture_form.specs.declared.fault.FormKind.{FormKind}
 use Rattle.capture_form.specs.declared.fault.FormKind.TheVariants as kinds
 use Rattle.capture_form.specs.Text.{Trace, IsCapture, text}
@@ -144,6 +144,14 @@ AnswersRead octets (Refused number clause) = Refuses octets number clause
 AnswersRead octets (Malformed offset form_kind) = IsMalformed octets offset form_kind
 AnswersRead octets (NoMemory offset) = (offset ≡ 0) ⊎ IsRefusedAt octets offset
 AnswersRead octets (Unreadable offset) = IsUnreadAt octets offset
+
+-- a verdict that an auditor is sure of, whether it forgets or not: one that forgets cannot tell what a record breaks
+abbrev pub is_sure : Bool → Verdict → Bool
+is_sure forgets (Accepted tally) = true
+is_sure forgets (Refused number clause) = not forgets
+is_sure forgets (Malformed offset form_kind) = true
+is_sure forgets (NoMemory offset) = true
+is_sure forgets (Unreadable offset) = true
 
 -- ---- what acceptance is worth
 

@@ -5,22 +5,22 @@ use Rattle.capture_form.specs.Rules.{RuleSet}
 use Rattle.capture_form.specs.Text.{Trace, IsCapture, text}
 use Rattle.capture_form.specs.Reading.{reading}
 use Rattle.state_ledger.specs.declared.ledger.Ledger.{Ledger}
-use Rattle.state_ledger.specs.Ledger.{Stands}
+use Rattle.state_ledger.specs.Ledger.{Stands, StandsWhole}
 use Rattle.audit_core.specs.declared.verdict.Verdict.{Verdict}
 use Rattle.audit_core.specs.declared.verdict.Verdict.TheVariants.{Accepted, Refused, Malformed, NoMemory, Unreadable}
 
 -- What is known of a watcher is said of what it was at first and of what it is: so that it may say what stays.
 
--- one record more was taken, whichever were before, judged by these rules: the ledger's with this one
+-- one record more was taken, whichever were before, judged by these rules: the ledger's with this one, of which it keeps enough
 abbrev pub TakesOneMore : {W : Type 0} → (W → W → RuleSet → List Record → Type 0) → RuleSet → Ledger → W → W → Record → Type 0
 TakesOneMore {W = W} saw rules ledger before after entry =
     (first : W) (records : List Record) → Stands rules ledger (records ++ entry ∷ []) → saw first before rules records → saw first after rules (records ++ entry ∷ [])
 
--- a record was refused behind those of the ledger, judged by these rules
+-- a record was refused behind those of the ledger, which keeps all, judged by these rules
 abbrev pub RefusesOneMore : {W : Type 0} → (W → W → RuleSet → List Record → Type 0) → (W → W → RuleSet → List Record → Record → Type 0)
     → RuleSet → Ledger → W → W → Record → Type 0
 RefusesOneMore {W = W} saw refuses rules ledger before after entry =
-    (first : W) (records : List Record) → Stands rules ledger records → saw first before rules records → refuses first after rules records entry
+    (first : W) (records : List Record) → StandsWhole rules ledger records → saw first before rules records → refuses first after rules records entry
 
 -- the octets are the text of a capture, of which the watcher saw each record
 pub record SawAll {W : Type 0} (saw : W → RuleSet → List Record → Type 0) (watcher : W) (octets : List ℕ) : Type 0 where

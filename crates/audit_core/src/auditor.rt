@@ -1,13 +1,13 @@
 //! The auditor: it takes the records of a capture one after the other, and refuses the first that does not meet the law.
 
-ghost use Rattle.std.specs.Prelude.{◌≡◌, ◌≢◌, ◌<◌, ◌∷◌, [], ◌++◌, List, None, IfErr, IfSome, OnOk};
+ghost use Rattle.std.specs.Prelude.{◌≡◌, ◌≢◌, ◌<◌, ◌∷◌, [], ◌++◌, List, None, IfErr, IfSome, OnOk, false, true};
 ghost use Rattle.capture_form.specs.declared.records.Record.{Record};
 ghost use Rattle.capture_form.specs.Rules.{RuleSet, AreRules};
 ghost use Rattle.capture_form.specs.Text.{IsRecord};
-ghost use Rattle.state_ledger.specs.Ledger.{broken_behind};
+ghost use Rattle.state_ledger.specs.Ledger.{Stands, broken_behind};
 ghost use Rattle.audit_core.specs.declared.auditor.TheConstants.{MOST_RECORDS};
 ghost use Rattle.audit_core.specs.declared.verdict.Refusal.TheVariants.{Memory};
-ghost use Rattle.audit_core.specs.Auditor.{Agrees, IsRefusalBehind, StandsFor, Stopped, entries_by, refusal_at, refusal_of, rules_of, tally_by};
+ghost use Rattle.audit_core.specs.Auditor.{Agrees, IsRefusalBehind, StandsFor, Stopped, entries_by, forgets_by, refusal_at, refusal_of, rules_of, tally_by};
 
 use crate::verdict::Refusal;
 use capture_form::{Record, RuleSet};
@@ -41,11 +41,31 @@ impl Auditor {
     /// An auditor of a capture with these rules, which has taken no record yet. It takes no memory.
     pub fn new(alloc: Global, rules: RuleSet) -> Auditor
         requires { AreRules rules }
-        ensures { Agrees result rules [] }
+        ensures agrees { Agrees result rules [] }
+        ensures keeps { forgets_by result ≡ false }
+    {
+        Auditor::over(rules, Ledger::new(alloc))
+    }
+
+    /// The same, which lets go of what a lawful record cannot name any more, so that its memory does not grow with the capture. Of
+    /// a record that it refuses it cannot say that it breaks a clause, nor which.
+    pub(crate) fn forgetting(alloc: Global, rules: RuleSet) -> Auditor
+        requires { AreRules rules }
+        ensures agrees { Agrees result rules [] }
+        ensures forgets { forgets_by result ≡ true }
+    {
+        Auditor::over(rules, Ledger::forgetting(alloc))
+    }
+
+    /// An auditor over this ledger, which has no records.
+    fn over(rules: RuleSet, ledger: Ledger) -> Auditor
+        requires { (of : RuleSet) → Stands of ledger [] }
+        ensures agrees { Agrees result rules [] }
+        ensures kind { forgets_by result ≡ ledger.forgets }
     {
         Auditor {
             rules,
-            ledger: Ledger::new(alloc),
+            ledger,
             refusal: None,
         }
     }
@@ -63,7 +83,8 @@ impl Auditor {
         ensures met { OnOk result ((rules : RuleSet) (records : List Record) → Agrees self.old rules records → broken_behind rules records entry ≡ None) }
         ensures taken { OnOk result ((rules : RuleSet) (records : List Record) → Agrees self.old rules records → Agrees self.new rules (records ++ entry ∷ [])) }
         // Or it breaks this clause first, unless memory was refused.
-        ensures refused { IfErr result (λ refusal. (rules : RuleSet) (records : List Record) → Agrees self.old rules records → IsRefusalBehind rules records entry refusal) }
+        ensures refused { IfErr result (λ refusal. forgets_by self.old ≡ false → (rules : RuleSet) (records : List Record) → Agrees self.old rules records → IsRefusalBehind rules records entry refusal) }
+        ensures kind { forgets_by self.new ≡ forgets_by self.old }
         // The refusal is answered for good, and then nothing changes.
         ensures stopped { IfErr result (Stopped self.new) }
         ensures again { IfSome (refusal_of self.old) (λ refusal. (result ≡ Err refusal) × (self.new ≡ self.old)) }
@@ -89,6 +110,13 @@ impl Auditor {
         self.ledger.entries()
     }
 
+    /// It lets go of what a lawful record cannot name any more.
+    pub(crate) fn forgets(&self) -> bool
+        ensures { result ≡ forgets_by self.now }
+    {
+        self.ledger.forgets()
+    }
+
     /// What the records that it took have come to.
     pub(crate) fn ledger(&self) -> &Ledger
         ensures { result.now ≡ self.now.ledger }
@@ -108,7 +136,8 @@ impl Auditor {
         requires { (tally_by self.old).records < MOST_RECORDS }
         ensures met { OnOk result ((rules : RuleSet) (records : List Record) → Agrees self.old rules records → broken_behind rules records entry.now ≡ None) }
         ensures taken { OnOk result ((rules : RuleSet) (records : List Record) → Agrees self.old rules records → Agrees self.new rules (records ++ entry.now ∷ [])) }
-        ensures refused { IfErr result (λ refusal. (rules : RuleSet) (records : List Record) → Agrees self.old rules records → IsRefusalBehind rules records entry.now refusal) }
+        ensures refused { IfErr result (λ refusal. forgets_by self.old ≡ false → (rules : RuleSet) (records : List Record) → Agrees self.old rules records → IsRefusalBehind rules records entry.now refusal) }
+        ensures kind { forgets_by self.new ≡ forgets_by self.old }
         ensures stopped { IfErr result (Stopped self.new) }
         ensures again { IfSome (refusal_of self.old) (λ refusal. (result ≡ Err refusal) × (self.new ≡ self.old)) }
         ensures stands { IfErr result (λ refusal. refusal ≢ Memory → (rules : RuleSet) (records : List Record) → StandsFor self.old rules records → StandsFor self.new rules records) }
@@ -126,7 +155,8 @@ impl Auditor {
         requires { (tally_by self.old).records < MOST_RECORDS }
         ensures met { OnOk result ((rules : RuleSet) (records : List Record) → Agrees self.old rules records → broken_behind rules records entry.now ≡ None) }
         ensures taken { OnOk result ((rules : RuleSet) (records : List Record) → Agrees self.old rules records → Agrees self.new rules (records ++ entry.now ∷ [])) }
-        ensures refused { IfErr result (λ refusal. (rules : RuleSet) (records : List Record) → Agrees self.old rules records → IsRefusalBehind rules records entry.now refusal) }
+        ensures refused { IfErr result (λ refusal. forgets_by self.old ≡ false → (rules : RuleSet) (records : List Record) → Agrees self.old rules records → IsRefusalBehind rules records entry.now refusal) }
+        ensures kind { forgets_by self.new ≡ forgets_by self.old }
         ensures same { IfErr result (λ refusal. refusal ≢ Memory → self.new ≡ self.old) }
     {
         let number = self.tally().records;

@@ -1,12 +1,12 @@
 //! Judging a capture that is there whole, and a text that is.
 
-ghost use Rattle.std.specs.Prelude.{◌≡◌, ◌^◌, ◌<◌, [], length, IfOk, IfErr, OnOk, if◌then◌else◌};
+ghost use Rattle.std.specs.Prelude.{◌≡◌, ◌^◌, ◌<◌, [], length, IfOk, IfErr, OnOk, false, if◌then◌else◌};
 ghost use Rattle.capture_form.specs.Gives.{is_refusal};
 ghost use Rattle.capture_form.specs.Text.{text};
 ghost use Rattle.trace_clauses.specs.declared.tally.Tally.{Tally};
 ghost use Rattle.audit_core.specs.declared.verdict.Verdict.{Verdict};
 ghost use Rattle.audit_core.specs.declared.verdict.Verdict.TheVariants.{Accepted};
-ghost use Rattle.audit_core.specs.Auditor.{Agrees};
+ghost use Rattle.audit_core.specs.Auditor.{Agrees, forgets_by};
 ghost use Rattle.audit_core.specs.Verdict.{Answers, AnswersCapture, IsKept, answer_of};
 ghost use Rattle.audit_core.specs.Stops.{StopsAudit, stop_of, stops_within, refusal_on, verdict_on};
 
@@ -111,7 +111,8 @@ fn audit_records(alloc: Global, capture: &Capture) -> Result<Tally, Stop>
 
 /// The auditor, which took no record yet, takes those of the capture.
 fn follow_records(auditor: &mut Auditor, capture: &Capture) -> Result<(), Stop>
-    requires { Agrees auditor.old capture.now.rules [] }
+    requires agrees { Agrees auditor.old capture.now.rules [] }
+    requires keeps { forgets_by auditor.old ≡ false }
     ensures accepted { OnOk result (Agrees auditor.new capture.now.rules capture.now.records) }
     ensures stopped { IfErr result (StopsAudit capture.now) }
 {

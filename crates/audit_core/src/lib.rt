@@ -3,8 +3,8 @@
 //! tells what that holds. `audit_bytes` answers, for any octets, the one verdict that holds of them, unless memory was
 //! refused: that they are the text of a capture each of whose records meets the law, or which record is the first that does
 //! not, or at which offset they stop being such a text. `audit_stream` answers it for the octets that a reader gives, which
-//! it reads record by record, or at which offset no more could be read. It trusts nothing of the router
-//! that wrote the capture.
+//! it reads record by record, or at which offset no more could be read; `audit_forgetting` does so in memory that does not grow
+//! with a lawful capture. It trusts nothing of the router that wrote the capture.
 //!
 //! - `verdict`: what is answered;
 //! - `auditor`: records, taken one after the other;
@@ -26,7 +26,9 @@ pub use capture_form::FormKind;
 pub use judging::{audit, audit_bytes};
 pub use laws::{lawful_text, one_verdict};
 pub use state_ledger::Ledger;
-pub use streaming::{audit_stream, audit_text, audit_watched};
+pub use streaming::{
+    audit_forgetting, audit_stream, audit_text, audit_watched, audit_watched_forgetting,
+};
 pub use trace_clauses::{Clause, Tally};
 pub use verdict::{Refusal, Verdict};
 pub use watching::Watcher;

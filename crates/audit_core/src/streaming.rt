@@ -1,6 +1,6 @@
 //! Judging a text that a reader gives, record by record.
 
-ghost use Rattle.std.specs.Prelude.{◌≡◌, ◌≢◌, ◌<◌, ◌++◌, ◌∷◌, ℕ, List, [], length, IfErr, IfSome, None, OnOk};
+ghost use Rattle.std.specs.Prelude.{◌≡◌, ◌≢◌, ◌<◌, ◌++◌, ◌∷◌, ℕ, List, [], length, IfErr, IfSome, None, OnOk, false, true};
 ghost use Rattle.capture_form.specs.declared.records.Record.{Record};
 ghost use Rattle.capture_form.specs.Rules.{AreRules, RuleSet};
 ghost use Rattle.capture_form.specs.Reader.{left_of, offset_of, fault_of, IsNew, IsUnreadable};
@@ -8,8 +8,8 @@ ghost use Rattle.trace_clauses.specs.declared.tally.Tally.{Tally};
 ghost use Rattle.audit_core.specs.declared.verdict.Verdict.TheVariants.{Accepted, Unreadable};
 ghost use Rattle.audit_core.specs.declared.verdict.Refusal.TheVariants.{Memory};
 ghost use Rattle.audit_core.specs.declared.auditor.TheConstants.{MOST_RECORDS};
-ghost use Rattle.audit_core.specs.Auditor.{Agrees, IsRefusalBehind, rules_of, tally_by};
-ghost use Rattle.audit_core.specs.Verdict.{AnswersRead, IsKept, verdict_of_fault, verdict_of_refusal};
+ghost use Rattle.audit_core.specs.Auditor.{Agrees, IsRefusalBehind, forgets_by, rules_of, tally_by};
+ghost use Rattle.audit_core.specs.Verdict.{AnswersRead, IsKept, is_sure, verdict_of_fault, verdict_of_refusal};
 ghost use Rattle.capture_form.specs.Text.{head_text};
 ghost use Rattle.audit_core.specs.Watching.{Watched};
 
@@ -63,29 +63,101 @@ pub fn audit_text<R: Read, W: Watcher>(
     ensures watched { ((rules : RuleSet) → W.saw watcher.old watcher.old rules []) → IfSome (left_of R.remaining text.old) (λ octets. Watched (W.saw watcher.old) (W.saw_refused watcher.old) watcher.new octets result) }
     ensures unreadable { (offset : ℕ) → result ≡ Unreadable offset → IsUnreadable text.new }
 {
+    audit_as(alloc, text, watcher, false)
+}
+
+/// The verdict of `audit_stream`, by an auditor whose memory does not grow with the capture but with what its clients have open:
+/// it lets go of deliveries of which no lawful record speaks any more. `None` where a record is none that such an auditor takes:
+/// what it breaks, `audit_stream` tells of the same octets, read once more from their start.
+pub fn audit_forgetting<R: Read>(alloc: Global, reader: R) -> Option<Verdict>
+where
+    R: Drop,
+    ensures { IfSome result (λ verdict. IfSome (R.remaining reader) (λ octets. AnswersRead octets verdict)) }
+{
+    audit_watched_forgetting(alloc, reader, &mut Unwatched)
+}
+
+/// The same, of which a watcher is told of each record that is taken; and of none that is refused.
+pub fn audit_watched_forgetting<R: Read, W: Watcher>(
+    alloc: Global,
+    reader: R,
+    watcher: &mut W,
+) -> Option<Verdict>
+where
+    R: Drop,
+    ensures answers { IfSome result (λ verdict. IfSome (R.remaining reader) (λ octets. AnswersRead octets verdict)) }
+    ensures watched { IfSome result (λ verdict. ((rules : RuleSet) → W.saw watcher.old watcher.old rules []) →
+        IfSome (R.remaining reader) (λ octets. Watched (W.saw watcher.old) (W.saw_refused watcher.old) watcher.new octets verdict)) }
+{
+    match Reader::within(alloc, reader, MOST_READS) {
+        Ok(mut text) => surely(audit_as(alloc, &mut text, watcher, true)),
+        Err(AllocError) => Some(Verdict::NoMemory(0)),
+    }
+}
+
+/// The verdict, if an auditor that forgets is sure of it.
+fn surely(verdict: Verdict) -> Option<Verdict>
+    ensures { IfSome result (λ sure. (sure ≡ verdict) × (is_sure true verdict ≡ true)) }
+{
+    match verdict {
+        Verdict::Refused(_, _) => None,
+        Verdict::Accepted(_) => Some(verdict),
+        Verdict::Malformed(_, _) => Some(verdict),
+        Verdict::NoMemory(_) => Some(verdict),
+        Verdict::Unreadable(_) => Some(verdict),
+    }
+}
+
+/// The verdict of `audit_text`, by an auditor that forgets, or by one that keeps all.
+fn audit_as<R: Read, W: Watcher>(
+    alloc: Global,
+    text: &mut Reader<R>,
+    watcher: &mut W,
+    forgets: bool,
+) -> Verdict
+    requires { IsNew text.old }
+    ensures answers { is_sure forgets result ≡ true → IfSome (left_of R.remaining text.old) (λ octets. AnswersRead octets result) }
+    ensures watched { is_sure forgets result ≡ true → ((rules : RuleSet) → W.saw watcher.old watcher.old rules []) → IfSome (left_of R.remaining text.old) (λ octets. Watched (W.saw watcher.old) (W.saw_refused watcher.old) watcher.new octets result) }
+    ensures unreadable { (offset : ℕ) → result ≡ Unreadable offset → IsUnreadable text.new }
+{
     match text.read_head() {
-        Ok(rules) => audit_read(alloc, rules, text, watcher),
+        Ok(rules) => {
+            let mut auditor = auditor_of(alloc, rules, forgets);
+            audit_read(&mut auditor, text, watcher)
+        }
         Err(fault) => verdict_of_fault(fault),
     }
 }
 
-/// The verdict of a text with these rules, whose records are read.
+/// An auditor of a capture with these rules, which forgets, or keeps all.
+fn auditor_of(alloc: Global, rules: RuleSet, forgets: bool) -> Auditor
+    requires { AreRules rules }
+    ensures agrees { Agrees result rules [] }
+    ensures kind { forgets_by result ≡ forgets }
+{
+    if forgets {
+        Auditor::forgetting(alloc, rules)
+    } else {
+        Auditor::new(alloc, rules)
+    }
+}
+
+/// The verdict of a text with the rules of an auditor that took no record yet, whose records are read.
 fn audit_read<R: Read, W: Watcher>(
-    alloc: Global,
-    rules: RuleSet,
+    auditor: &mut Auditor,
     records: &mut Reader<R>,
     watcher: &mut W,
 ) -> Verdict
-    requires rules { AreRules rules }
-    requires place { offset_of records.old ≡ length (head_text rules) }
+    requires rules { AreRules (rules_of auditor.old) }
+    requires agrees { Agrees auditor.old (rules_of auditor.old) [] }
+    requires place { offset_of records.old ≡ length (head_text (rules_of auditor.old)) }
     requires runs { fault_of records.old ≡ None }
-    ensures answers { IfSome (left_of R.remaining records.old) (λ left. AnswersRead (head_text rules ++ left) result) }
-    ensures watched { W.saw watcher.old watcher.old rules [] → IfSome (left_of R.remaining records.old) (λ left. Watched (W.saw watcher.old) (W.saw_refused watcher.old) watcher.new (head_text rules ++ left) result) }
+    ensures answers { is_sure (forgets_by auditor.old) result ≡ true → IfSome (left_of R.remaining records.old) (λ left. AnswersRead (head_text (rules_of auditor.old) ++ left) result) }
+    ensures watched { is_sure (forgets_by auditor.old) result ≡ true → W.saw watcher.old watcher.old (rules_of auditor.old) [] → IfSome (left_of R.remaining records.old) (λ left. Watched (W.saw watcher.old) (W.saw_refused watcher.old) watcher.new (head_text (rules_of auditor.old) ++ left) result) }
     ensures unreadable { (offset : ℕ) → result ≡ Unreadable offset → IsUnreadable records.new }
 {
-    let offset = len_of_head(&rules);
-    let mut auditor = Auditor::new(alloc, rules);
-    follow_read(&mut auditor, records, offset, watcher)
+    let offset = len_of_head(auditor.rules());
+    follow_read(auditor, records, offset, watcher)
 }
 
 /// The verdict of a text whose head ends at this offset, by an auditor that has its rules and took no record yet. The records
@@ -101,8 +173,8 @@ fn follow_read<R: Read, W: Watcher>(
     requires head { offset ≡ length (head_text (rules_of auditor.old)) }
     requires place { offset_of records.old ≡ length (head_text (rules_of auditor.old)) }
     requires runs { fault_of records.old ≡ None }
-    ensures answers { IfSome (left_of R.remaining records.old) (λ left. AnswersRead (head_text (rules_of auditor.old) ++ left) result) }
-    ensures watched { W.saw watcher.old watcher.old (rules_of auditor.old) [] → IfSome (left_of R.remaining records.old) (λ left. Watched (W.saw watcher.old) (W.saw_refused watcher.old) watcher.new (head_text (rules_of auditor.old) ++ left) result) }
+    ensures answers { is_sure (forgets_by auditor.old) result ≡ true → IfSome (left_of R.remaining records.old) (λ left. AnswersRead (head_text (rules_of auditor.old) ++ left) result) }
+    ensures watched { is_sure (forgets_by auditor.old) result ≡ true → W.saw watcher.old watcher.old (rules_of auditor.old) [] → IfSome (left_of R.remaining records.old) (λ left. Watched (W.saw watcher.old) (W.saw_refused watcher.old) watcher.new (head_text (rules_of auditor.old) ++ left) result) }
     ensures unreadable { (number : ℕ) → result ≡ Unreadable number → IsUnreadable records.new }
 {
     let mut offset = offset;
@@ -121,7 +193,7 @@ fn follow_read<R: Read, W: Watcher>(
     }
 }
 
-/// The auditor takes the record, and the watcher is told.
+/// The auditor takes the record, and the watcher is told; of one that is refused by an auditor that keeps all.
 ///
 /// # Errors
 ///
@@ -134,9 +206,10 @@ fn take_watched<W: Watcher>(
     requires few { (tally_by auditor.old).records < MOST_RECORDS }
     requires agrees { (records : List Record) × Agrees auditor.old (rules_of auditor.old) records }
     ensures taken { OnOk result ((rules : RuleSet) (records : List Record) → Agrees auditor.old rules records → Agrees auditor.new rules (records ++ entry ∷ [])) }
-    ensures refused { IfErr result (λ refusal. (rules : RuleSet) (records : List Record) → Agrees auditor.old rules records → IsRefusalBehind rules records entry refusal) }
+    ensures refused { IfErr result (λ refusal. forgets_by auditor.old ≡ false → (rules : RuleSet) (records : List Record) → Agrees auditor.old rules records → IsRefusalBehind rules records entry refusal) }
     ensures seen { OnOk result ((first : W) (rules : RuleSet) (records : List Record) → Agrees auditor.old rules records → W.saw first watcher.old rules records → W.saw first watcher.new rules (records ++ entry ∷ [])) }
-    ensures explained { IfErr result (λ refusal. refusal ≢ Memory → (first : W) (rules : RuleSet) (records : List Record) → Agrees auditor.old rules records → W.saw first watcher.old rules records → W.saw_refused first watcher.new rules records entry) }
+    ensures kind { forgets_by auditor.new ≡ forgets_by auditor.old }
+    ensures explained { IfErr result (λ refusal. forgets_by auditor.old ≡ false → refusal ≢ Memory → (first : W) (rules : RuleSet) (records : List Record) → Agrees auditor.old rules records → W.saw first watcher.old rules records → W.saw_refused first watcher.new rules records entry) }
 {
     match auditor.follow(&entry) {
         Ok(()) => match watcher.taken(auditor.ledger(), auditor.rules(), &entry) {
@@ -145,6 +218,9 @@ fn take_watched<W: Watcher>(
         },
         Err(Refusal::Memory) => Err(Refusal::Memory),
         Err(Refusal::Broken(number, clause)) => {
+            if auditor.forgets() {
+                return Err(Refusal::Broken(number, clause));
+            }
             match watcher.refused(auditor.ledger(), auditor.rules(), &entry) {
                 Ok(()) => Err(Refusal::Broken(number, clause)),
                 Err(AllocError) => Err(Refusal::Memory),

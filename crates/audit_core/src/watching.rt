@@ -3,7 +3,7 @@
 ghost use Rattle.std.specs.Prelude.{◌++◌, ◌∷◌, [], List, OnOk};
 ghost use Rattle.capture_form.specs.declared.records.Record.{Record};
 ghost use Rattle.capture_form.specs.Rules.{RuleSet};
-ghost use Rattle.state_ledger.specs.Ledger.{Stands};
+ghost use Rattle.state_ledger.specs.Ledger.{Stands, StandsWhole};
 ghost use Rattle.audit_core.specs.Watching.{RefusesOneMore, TakesOneMore};
 
 use capture_form::{Record, RuleSet};
@@ -38,7 +38,7 @@ pub trait Watcher {
         rules: &RuleSet,
         entry: &Record,
     ) -> Result<(), AllocError>
-        requires { (records : List Record) × Stands rules.now ledger.now records }
+        requires { (records : List Record) × StandsWhole rules.now ledger.now records }
         ensures { OnOk result (RefusesOneMore saw saw_refused rules.now ledger.now self.old self.new entry.now) };
 }
 

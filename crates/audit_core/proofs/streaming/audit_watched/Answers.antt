@@ -1,6 +1,4 @@
-use Rattle.std.specs.Prelude.{IfSome}
 use Rattle.capture_form.specs.Reader.{left_of}
-use Rattle.audit_core.specs.declared.verdict.Verdict.{Verdict}
 use Rattle.audit_core.proofs.Unread.{kept_of, roomless, roomless_kept, roomless_seen}
 use Rattle.audit_core.proofs.streaming.audit_watched.Goals as goal
 

@@ -1,5 +1,6 @@
-use Rattle.std.proofs.Common.{sym, subst, ◌∷◌, ◌++◌, []}
+use Rattle.std.proofs.Common.{sym, ap, subst, ◌∙◌, ◌∷◌, ◌++◌, []}
 use Rattle.std.specs.Prelude.{◌≢◌}
+use Rattle.state_ledger.specs.declared.ledger.Ledger.{Ledger}
 use Rattle.audit_core.specs.Auditor.{rules_of}
 use Rattle.audit_core.specs.declared.verdict.Refusal.{Refusal}
 use Rattle.audit_core.specs.declared.verdict.Refusal.TheVariants.{Memory}
@@ -18,6 +19,6 @@ returns-in-Ok-taken-clause-seen g c = λ first rules records agrees seen.
     rules records (c.in-Ok.ensures.taken rules records agrees).stands seen
 
 pub returns-in-Ok-refused-clause-explained : goal.returns-in-Ok-refused-clause-explained
-returns-in-Ok-refused-clause-explained g c = λ no first rules records agrees seen.
+returns-in-Ok-refused-clause-explained g c = λ keeps no first rules records agrees seen.
     explained (g.W.Watcher.saw first) (g.W.Watcher.saw_refused first) c.args.watcher.now c.refused.new.self c.follow.new.self c.rules-in-Err-Broken.result.now c.ledger-in-Err-Broken.result.now c.args.entry c.rules-in-Err-Broken.ensures c.ledger-in-Err-Broken.ensures (c.in-Ok-refused.ensures first)
-    rules records (c.in-Err-Broken.ensures.stands (subst (λ (r : Refusal). r ≢ Memory) (sym c.in-Err-Broken.field-0-is) no) rules records agrees.stands) seen
+    (ap (λ (l : Ledger). l.forgets) c.ledger-in-Err-Broken.ensures ∙ (c.follow.ensures.kind ∙ keeps)) rules records (c.in-Err-Broken.ensures.stands (subst (λ (r : Refusal). r ≢ Memory) (sym c.in-Err-Broken.field-0-is) no) rules records agrees.stands) seen

@@ -13,6 +13,6 @@ returns-in-Ok-clause-taken c = λ rules records agrees.
     longer rules records c.args.entry.now c.args.self.now agrees _ refl _ refl refl unbroken (c.in-Ok.ensures.entered records)
 
 pub returns-in-Err-clause-refused : goal.returns-in-Err-clause-refused
-returns-in-Err-clause-refused c = λ rules records agrees.
+returns-in-Err-clause-refused c = λ keeps rules records agrees.
     subst (λ r. IsRefusalBehind rules records c.args.entry.now r) (sym c.refusal_at.ensures)
-    (refused rules records c.args.entry.now c.args.self.now agrees _ refl c.tally-number.result c.tally-number.ensures c.in-Err.why (c.in-Err.ensures.reason records))
+    (refused rules records c.args.entry.now c.args.self.now agrees _ refl c.tally-number.result c.tally-number.ensures c.in-Err.why (c.in-Err.ensures.reason keeps records))
