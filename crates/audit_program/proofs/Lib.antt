@@ -1,3 +1,4 @@
+mod GrowingExamples
 mod RunLemmas
 mod WordExamples
 mod WordLemmas

@@ -1,20 +1,20 @@
 //! A run over any words, reader and writers.
-ghost use Rattle.std.specs.Prelude.{◌≡◌, ◌≢◌, ◌<◌, ◌≤◌, ◌⊎◌, ◌↔◌, ◌∷◌, [], None, codes, map};
+ghost use Rattle.std.specs.Prelude.{◌≡◌, ◌≢◌, ◌<◌, ◌≤◌, ◌⊎◌, ◌↔◌, ◌∷◌, [], IfSome, None, codes, map};
 ghost use Rattle.program_ends.specs.Growth.{IsRefusedGrowth};
 ghost use Rattle.audit_core.specs.declared.verdict.Verdict.TheVariants.{NoMemory, Unreadable};
 ghost use Rattle.audit_core.specs.Report.{status_of};
 ghost use Rattle.audit_program.specs.Run.{IsRunOn, IsStatus, IsVerdictOnInput, Tells, TellsInput, TellsSome};
 ghost use Rattle.program_ends.specs.InputSource.{path_of};
 
+use crate::following::{audit_growing_file, audit_growing_forgetting};
 use crate::words::{End, Words};
-use audit_core::{Verdict, audit_stream};
-use audit_following::audit_growing_file;
+use audit_core::{Verdict, audit_forgetting, audit_stream};
 use program_ends::{
     InputSource, NOT_WRITTEN, WORDS_FAULT, is_refused_growth, tell_line, tell_refused_words,
 };
 use std::alloc::Global;
 use std::convert::AsStr;
-use std::io::{Read, Write};
+use std::io::{Read, Seek, Write};
 use std::rt::Files;
 use std::time::Clock;
 use std::{fs, io};
@@ -65,9 +65,48 @@ fn verdict_on<F: Files, C: Clock, R: Read>(
     match words.source {
         InputSource::StandardInput => verdict_up_to(clock, alloc, words.end, input),
         InputSource::File(path) => match fs::open(files, path) {
-            Ok(file) => verdict_up_to(clock, alloc, words.end, file),
+            Ok(mut file) => verdict_on_file(clock, alloc, words.end, &mut file),
             Err(error) => verdict_unopened(&error),
         },
+    }
+}
+
+/// The verdict on a file up to this end, in memory that does not grow with a lawful capture: where a record is refused so, the file
+/// is read once more from its start, and all is kept, to tell what the record breaks. What cannot be read twice, as a pipe, is
+/// read once, and all is kept.
+fn verdict_on_file<C: Clock, F: Read + Seek>(
+    clock: &C,
+    alloc: Global,
+    end: End,
+    file: &mut F,
+) -> Verdict {
+    if file.rewind().is_err() {
+        return verdict_up_to(clock, alloc, end, file);
+    }
+    if let Some(verdict) = verdict_forgetting(clock, alloc, end, &mut *file) {
+        return verdict;
+    }
+    match file.rewind() {
+        Ok(()) => verdict_up_to(clock, alloc, end, file),
+        Err(_) => Verdict::Unreadable(0),
+    }
+}
+
+/// The verdict on what the reader gives up to this end, by an auditor that forgets, if it has one.
+fn verdict_forgetting<C: Clock, R: Read>(
+    clock: &C,
+    alloc: Global,
+    end: End,
+    reader: R,
+) -> Option<Verdict>
+where
+    R: Drop,
+    ensures { IfSome result (IsVerdictOnInput (R.remaining reader)) }
+{
+    match end {
+        End::First => audit_forgetting(alloc, reader),
+        End::Idle(seconds) => audit_growing_forgetting(clock, alloc, reader, Some(seconds)),
+        End::Never => audit_growing_forgetting(clock, alloc, reader, None),
     }
 }
 

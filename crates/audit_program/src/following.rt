@@ -8,7 +8,7 @@ ghost use Rattle.audit_core.specs.Verdict.{AnswersRead, IsKept};
 use crate::followed::Followed;
 use crate::growing::Growing;
 use crate::growing_file::GrowingFile;
-use audit_core::{Verdict, audit_stream};
+use audit_core::{Verdict, audit_forgetting, audit_stream};
 use std::alloc::Global;
 use std::io::Read;
 use std::time::Clock;
@@ -40,4 +40,21 @@ where
     ensures kept { IfSome (R.remaining file) (λ octets. (tally : Tally) → result ≡ Accepted tally → IsKept octets) }
 {
     audit_growing(alloc, GrowingFile::new(clock, file, patience))
+}
+
+/// The verdict of `audit_growing_file`, by an auditor that forgets, if it has one (`audit_forgetting`).
+pub(crate) fn audit_growing_forgetting<C: Clock, R: Read>(
+    clock: &C,
+    alloc: Global,
+    file: R,
+    patience: Option<u64>,
+) -> Option<Verdict>
+where
+    R: Drop,
+    ensures { IfSome result (λ verdict. IfSome (R.remaining file) (λ octets. AnswersRead octets verdict)) }
+{
+    audit_forgetting(
+        alloc,
+        Followed::new(GrowingFile::new(clock, file, patience)),
+    )
 }
