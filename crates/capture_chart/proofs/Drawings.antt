@@ -14,14 +14,14 @@ use Rattle.svg_text.specs.Drawn.{Drawn, end_octets, root_end, root_octets, start
 use Rattle.std.specs.Prelude.{codes}
 use Rattle.std.specs.Borrow.{Bor}
 use Rattle.std.specs.Str.{chars, encode_utf8_all}
-use Rattle.svg_parts.proofs.Drawings.{Ends, closed, draws_then}
+use Rattle.svg_text.proofs.Drawings.{Ends, closed, draws_then}
 use Rattle.capture_chart.specs.Marks.{Marking, class_of}
 use Rattle.capture_chart.specs.declared.arrow.Arrow.{Arrow}
 use Rattle.capture_chart.specs.Shown.{Shown, Worded, shown, shown_in, title_text, worded}
 use Rattle.capture_chart.specs.declared.places.ArrowPlace.{ArrowPlace}
 use Rattle.capture_chart.specs.declared.places.TheConstants.{ROUTER}
 use Rattle.capture_chart.specs.Places.{between, lanes_of, place_at, row_place}
-use Rattle.svg_parts.specs.Parts.{Draws, DrawsSome, element_octets, label_octets, line_octets}
+use Rattle.svg_text.specs.Parts.{Draws, DrawsSome, element_octets, label_octets, line_octets}
 use Rattle.capture_chart.specs.Drawn.{HasArrows, all_lanes, arrow_octets, arrows_octets, chart_octets, group_octets, height_of, outcome_octets, shaft_octets, start_of, tie_octets, told_octets, width_of}
 
 -- ---- arrows

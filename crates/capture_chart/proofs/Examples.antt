@@ -20,7 +20,7 @@ use Rattle.capture_chart.specs.declared.marks.Mark.TheVariants.{Compared, Plain,
 use Rattle.capture_chart.specs.Marks.{Marking, mark_of}
 use Rattle.capture_chart.specs.Shown.{Shown, Worded, shown_of, title_text, told_text}
 use Rattle.capture_chart.specs.Places.{connection_place, lanes_of, place_at, record_place, row_place}
-use Rattle.svg_parts.specs.Parts.{element_octets, label_octets, line_octets}
+use Rattle.svg_text.specs.Parts.{element_octets, label_octets, line_octets}
 use Rattle.capture_chart.specs.Drawn.{HasArrows, all_lanes, arrow_octets, arrows_octets, connection_words, group_octets, lane_octets, outcome_octets, shaft_octets, start_of, tie_octets, told_octets}
 
 -- ---- what is shown

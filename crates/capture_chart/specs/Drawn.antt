@@ -5,7 +5,7 @@ use Rattle.svg_text.specs.declared.element.Element.TheVariants.{Description, Gro
 use Rattle.svg_text.specs.Grammar.{start_text}
 use Rattle.svg_text.specs.Escaping.{pieces_of}
 use Rattle.svg_text.specs.Drawn.{end_octets, root_end, root_octets}
-use Rattle.svg_parts.specs.Parts.{element_octets, label_octets, line_octets}
+use Rattle.svg_text.specs.Parts.{element_octets, label_octets, line_octets}
 use Rattle.capture_chart.specs.declared.places.TheConstants.{ROUTER}
 use Rattle.capture_chart.specs.declared.places.ArrowPlace.{ArrowPlace}
 use Rattle.capture_chart.specs.declared.topic.Course.{Course}

@@ -1,7 +1,7 @@
 -- Where lanes and rows stand, in pixels (own choice).
 use Rattle.std.specs.Prelude.{ℕ, ◌+◌, ◌*◌, ◌/◌, ◌==◌, List, [], ◌∷◌, ◌++◌, Option, Some, None, if◌then◌else◌}
 use Rattle.std.specs.List.{list_any}
-use Rattle.svg_parts.specs.Numbers.{most}
+use Rattle.svg_text.specs.Numbers.{most}
 use Rattle.capture_chart.specs.declared.places.TheConstants.{FIRST_LANE, LANE, ROUTER, ROW, TOP}
 use Rattle.capture_chart.specs.declared.places.ArrowPlace.{ArrowPlace}
 use Rattle.capture_chart.specs.Marks.{Marking, mark_of}

@@ -3,7 +3,7 @@
 ghost use Rattle.std.specs.Prelude.{◌≡◌, IfOk, map};
 ghost use Rattle.capture_chart.specs.Marks.{marking};
 ghost use Rattle.capture_chart.specs.Shown.{shown, worded};
-ghost use Rattle.svg_parts.specs.Parts.{Draws};
+ghost use Rattle.svg_text.specs.Parts.{Draws};
 ghost use Rattle.capture_chart.specs.Drawn.{arrow_octets, arrows_octets, outcome_octets, shaft_octets, tie_octets, told_octets};
 
 use crate::arrow::Arrow;
@@ -11,8 +11,7 @@ use crate::marks::Marks;
 use crate::places::{ArrowPlace, ROUTER, between, place_at};
 use crate::topic::Course;
 use std::alloc::{AllocError, Global};
-use svg_parts::{draw_label, draw_line, draw_words};
-use svg_text::{Attribute, Drawing, Element, Name, Value};
+use svg_text::{Attribute, Drawing, Element, Name, Value, draw_label, draw_line, draw_words};
 
 /// Draws each arrow, in order.
 pub(crate) fn draw_arrows(

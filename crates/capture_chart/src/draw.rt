@@ -7,8 +7,7 @@ use crate::lanes::draw_lanes;
 use crate::marks::Marks;
 use crate::places::{lane_place, lanes_of, row_place};
 use std::alloc::AllocError;
-use svg_parts::draw_words;
-use svg_text::{Drawing, Element};
+use svg_text::{Drawing, Element, draw_words};
 
 impl Chart {
     ghost use Rattle.std.specs.Prelude.{◌≡◌, IfOk};

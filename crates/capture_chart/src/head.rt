@@ -1,11 +1,10 @@
 //! What stands between the title and the lanes.
 
 ghost use Rattle.std.specs.Prelude.{◌≡◌, IfOk};
-ghost use Rattle.svg_parts.specs.Parts.{DrawsSome};
+ghost use Rattle.svg_text.specs.Parts.{DrawsSome};
 
 use std::alloc::AllocError;
-use svg_parts::draw_words;
-use svg_text::{Attribute, Drawing, Element, Name, Value};
+use svg_text::{Attribute, Drawing, Element, Name, Value, draw_words};
 
 /// How it looks, in light and dark.
 const STYLE: &str = "svg { color: #1a1a1a; background: #ffffff; font: 11px monospace } \

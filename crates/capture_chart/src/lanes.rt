@@ -2,14 +2,13 @@
 
 ghost use Rattle.std.specs.Prelude.{◌≡◌, IfOk};
 ghost use Rattle.std.specs.String.{string_bytes};
-ghost use Rattle.svg_parts.specs.Parts.{Draws};
+ghost use Rattle.svg_text.specs.Parts.{Draws};
 ghost use Rattle.capture_chart.specs.Drawn.{all_lanes, connection_words, lane_octets};
 
 use crate::places::{ROUTER, lane_place};
 use itoa::Buffer;
 use std::alloc::{AllocError, Global};
-use svg_parts::{draw_label, draw_line};
-use svg_text::Drawing;
+use svg_text::{Drawing, draw_label, draw_line};
 
 /// Draws the lane of the router and that of each connection, down to this place.
 pub(crate) fn draw_lanes(

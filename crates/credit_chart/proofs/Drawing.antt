@@ -12,8 +12,8 @@ use Rattle.svg_text.specs.Grammar as grammar
 use Rattle.svg_text.specs.Grammar.{start_text}
 use Rattle.svg_text.specs.Escaping.{pieces_of}
 use Rattle.svg_text.specs.Drawn.{Drawn, end_octets, root_end, root_octets, start_octets}
-use Rattle.svg_parts.specs.Parts.{Draws, DrawsSome, element_octets, label_octets, line_octets, path_octets}
-use Rattle.svg_parts.proofs.Drawings.{Ends, closed, draws_then, if_some_then, some_then}
+use Rattle.svg_text.specs.Parts.{Draws, DrawsSome, element_octets, label_octets, line_octets, path_octets}
+use Rattle.svg_text.proofs.Drawings.{Ends, closed, draws_then, if_some_then, some_then}
 use Rattle.credit_chart.specs.declared.level.Level.{Level}
 use Rattle.credit_chart.specs.declared.level.Quantity.{Quantity}
 use Rattle.credit_chart.specs.declared.level.Quantity.TheVariants.{Credit, Draining, Unsettled, Waiting, Window}

@@ -6,7 +6,7 @@ use Rattle.std.specs.Str.{chars}
 use lib.Utf8.{encode}
 use Rattle.svg_text.specs.declared.element.Element.TheVariants.{Title}
 use Rattle.svg_text.specs.Drawn.{root_end, root_octets, start_octets}
-use Rattle.svg_parts.specs.Parts.{element_octets, label_octets}
+use Rattle.svg_text.specs.Parts.{element_octets, label_octets}
 use Rattle.std.specs.Int.Count.{count_leading_zeros}
 use Rattle.credit_chart.specs.declared.level.Level.{Level}
 use Rattle.credit_chart.specs.declared.level.Quantity.TheVariants.{Credit, Draining, Unsettled, Waiting, Window}

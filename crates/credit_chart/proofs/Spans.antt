@@ -5,7 +5,7 @@ use Rattle.std.specs.Prelude.{unwrap_or, SomeIff}
 use Rattle.std.specs.Int.Count.{count_leading_zeros, leading_unique}
 use Rattle.std.proofs.lemmas.Bool.{leb-true, leb-false}
 use Rattle.std.proofs.lemmas.Nat.{leading_length, pow-add}
-use Rattle.svg_parts.specs.Numbers.{most}
+use Rattle.svg_text.specs.Numbers.{most}
 use Rattle.credit_chart.specs.declared.scale.TheConstants.{COLUMNS}
 use Rattle.credit_chart.specs.declared.scale.Scale.{Scale}
 use Rattle.credit_chart.specs.Places.{count_of, power_above, scale_of, span_of}

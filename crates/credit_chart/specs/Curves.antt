@@ -5,7 +5,7 @@ use Rattle.svg_text.specs.declared.element.Element.TheVariants.{Group, Title}
 use Rattle.svg_text.specs.Grammar.{start_text}
 use Rattle.svg_text.specs.Escaping.{pieces_of}
 use Rattle.svg_text.specs.Drawn.{end_octets, root_end, root_octets}
-use Rattle.svg_parts.specs.Parts.{element_octets, label_octets, line_octets, path_octets}
+use Rattle.svg_text.specs.Parts.{element_octets, label_octets, line_octets, path_octets}
 use Rattle.credit_chart.specs.declared.level.Level.{Level}
 use Rattle.credit_chart.specs.declared.level.Quantity.{Quantity}
 use Rattle.credit_chart.specs.declared.level.Quantity.TheVariants.{Credit, Window, Waiting, Unsettled, Draining}

@@ -1,7 +1,7 @@
 -- Where columns and values stand, in pixels (own choice).
 use Rattle.std.specs.Prelude.{ℕ, ◌+◌, ◌-◌, ◌*◌, ◌/◌, ◌^◌}
 use Rattle.std.specs.Int.Count.{count_leading_zeros}
-use Rattle.svg_parts.specs.Numbers.{most}
+use Rattle.svg_text.specs.Numbers.{most}
 use Rattle.credit_chart.specs.declared.level.Quantity.{Quantity}
 use Rattle.credit_chart.specs.declared.level.Quantity.TheVariants.{Credit, Window, Waiting, Unsettled, Draining}
 use Rattle.credit_chart.specs.declared.scale.Scale.{Scale}

@@ -3,7 +3,7 @@
 ghost use Rattle.std.specs.Prelude.{◌≡◌, IfOk, List, Option, length};
 ghost use Rattle.std.specs.String.{string_bytes};
 ghost use Rattle.svg_text.specs.Drawn.{IsSvg};
-ghost use Rattle.svg_parts.specs.Parts.{Draws, DrawsSome};
+ghost use Rattle.svg_text.specs.Parts.{Draws, DrawsSome};
 ghost use Rattle.credit_chart.specs.declared.level.Level.{Level};
 ghost use Rattle.credit_chart.specs.Places.{scale_of};
 ghost use Rattle.credit_chart.specs.Curves.{HasCurves, panels_octets, records_words};
@@ -15,8 +15,7 @@ use crate::scale::{ABOVE, BELOW, HEIGHT, LEFT, Scale, WIDTH, scale_of};
 use crate::thinned::Thinned;
 use itoa::Buffer;
 use std::alloc::{AllocError, Global};
-use svg_parts::{draw_label, draw_words};
-use svg_text::{Drawing, Element};
+use svg_text::{Drawing, Element, draw_label, draw_words};
 
 /// How it looks, in light and dark.
 const STYLE: &str = "svg { color: #1a1a1a; background: #ffffff; font: 11px monospace } \

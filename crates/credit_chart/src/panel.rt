@@ -2,7 +2,7 @@
 
 ghost use Rattle.std.specs.Prelude.{◌≡◌, ◌<◌, IfOk, List, Option, length};
 ghost use Rattle.std.specs.String.{string_bytes};
-ghost use Rattle.svg_parts.specs.Parts.{Draws, DrawsSome};
+ghost use Rattle.svg_text.specs.Parts.{Draws, DrawsSome};
 ghost use Rattle.credit_chart.specs.declared.level.Level.{Level};
 ghost use Rattle.credit_chart.specs.Places.{scale_of};
 ghost use Rattle.credit_chart.specs.Thinned.{AreThinned};
@@ -14,8 +14,9 @@ use crate::scale::{LEFT, RIGHT, Scale, bottom_of, height_of};
 use crate::thinned::Thinned;
 use itoa::Buffer;
 use std::alloc::{AllocError, Global};
-use svg_parts::{draw_label, draw_line, draw_path, draw_words};
-use svg_text::{Attribute, Drawing, Element, Name, Value};
+use svg_text::{
+    Attribute, Drawing, Element, Name, Value, draw_label, draw_line, draw_path, draw_words,
+};
 
 /// Draws the curve of a quantity over these columns, under its name, with the line on which the value 0 stands.
 pub(crate) fn draw_panel(

@@ -1,7 +1,7 @@
 //! Where columns and values stand, in pixels.
 
 ghost use Rattle.std.specs.Prelude.{◌≡◌, ◌<◌, ◌≤◌, List, Option, length};
-ghost use Rattle.svg_parts.specs.Numbers.{most};
+ghost use Rattle.svg_text.specs.Numbers.{most};
 ghost use Rattle.credit_chart.specs.Places as spec;
 
 use crate::level::Quantity;

@@ -1,3 +1,6 @@
 -- proofs/Lib.antt
 pub mod Places
 pub mod Examples
+mod Taking
+mod SeenAs
+mod DrawnExamples

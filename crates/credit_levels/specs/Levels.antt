@@ -8,7 +8,7 @@ use Rattle.trace_events.specs.Credit.{is_draining, link_credit}
 use Rattle.trace_events.specs.Window.{session_window}
 use Rattle.state_incoming.specs.WaitingCount.{waiting_count}
 use Rattle.state_outgoing.specs.UnsettledCount.{unsettled_count}
-use Rattle.svg_parts.specs.Numbers.{most}
+use Rattle.svg_text.specs.Numbers.{most}
 use Rattle.credit_chart.specs.declared.level.Level.{Level}
 use Rattle.credit_chart.specs.Thinned.{AreThinned}
 use Rattle.credit_levels.specs.declared.pick.Pick.{Pick}

@@ -6,7 +6,7 @@ ghost use Rattle.trace_events.specs.History.{moment_of};
 ghost use Rattle.trace_events.specs.Link.{IsLiveLink, is_consumer, live_link};
 ghost use Rattle.trace_events.specs.Words.{is_some_and, or_else, where_passes};
 ghost use Rattle.trace_values.specs.View.{Events, link_view};
-ghost use Rattle.svg_parts.specs.Numbers.{most};
+ghost use Rattle.svg_text.specs.Numbers.{most};
 ghost use Rattle.credit_levels.specs.Levels as spec;
 
 use crate::delivery_counts::DeliveryCounts;

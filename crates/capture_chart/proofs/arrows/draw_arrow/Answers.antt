@@ -3,7 +3,7 @@ use Rattle.svg_text.specs.declared.element.Element.TheVariants.{Description}
 use Rattle.capture_chart.specs.declared.places.TheConstants.{ROUTER}
 use Rattle.capture_chart.specs.Marks.{class_of}
 use Rattle.capture_chart.specs.Shown.{Worded, worded}
-use Rattle.svg_parts.specs.Parts.{Draws, element_octets, label_octets}
+use Rattle.svg_text.specs.Parts.{Draws, element_octets, label_octets}
 use Rattle.capture_chart.proofs.Drawings.{arrow_drawn, group_is}
 use Rattle.capture_chart.proofs.arrows.draw_arrow.Goals as goal
 

@@ -1,7 +1,7 @@
 use Rattle.std.proofs.Common.{map}
 use Rattle.capture_chart.specs.Marks.{marking}
 use Rattle.capture_chart.specs.Shown.{shown}
-use Rattle.svg_parts.proofs.Drawings.{draws_nothing}
+use Rattle.svg_text.proofs.Drawings.{draws_nothing}
 use Rattle.capture_chart.proofs.Drawings.{all_arrows, arrows_more}
 use Rattle.capture_chart.proofs.arrows.draw_arrows.Goals as goal
 

@@ -1,7 +1,7 @@
 use Rattle.std.proofs.Common.{map, take}
 use Rattle.capture_chart.specs.Marks.{marking}
 use Rattle.capture_chart.specs.Shown.{shown, worded}
-use Rattle.svg_parts.specs.Parts.{Draws}
+use Rattle.svg_text.specs.Parts.{Draws}
 use Rattle.capture_chart.specs.Drawn.{arrows_octets}
 use Rattle.capture_chart.proofs.arrows.draw_arrows.Given as goal
 

@@ -1,5 +1,5 @@
 use Rattle.svg_text.specs.declared.element.Element.TheVariants.{Definitions}
-use Rattle.svg_parts.proofs.Drawings.{closed_some, if_some_then, some_of}
+use Rattle.svg_text.proofs.Drawings.{closed_some, if_some_then, some_of}
 use Rattle.capture_chart.proofs.head.draw_head.Goals as goal
 
 pub returns : goal.returns

@@ -1,5 +1,5 @@
 use Rattle.svg_text.specs.declared.element.Element.TheVariants.{Marker}
-use Rattle.svg_parts.proofs.Drawings.{closed_some, some_of, written}
+use Rattle.svg_text.proofs.Drawings.{closed_some, some_of, written}
 use Rattle.capture_chart.proofs.head.draw_marker.Goals as goal
 
 pub returns : goal.returns

@@ -1,4 +1,4 @@
-use Rattle.svg_parts.proofs.Drawings.{if_draws_then}
+use Rattle.svg_text.proofs.Drawings.{if_draws_then}
 use Rattle.capture_chart.proofs.lanes.draw_lane.Goals as goal
 
 pub returns : goal.returns

@@ -3,10 +3,10 @@ use Rattle.std.proofs.lemmas.List.{take_all}
 use Rattle.std.specs.Prelude.{codes}
 use Rattle.capture_chart.specs.declared.places.TheConstants.{FIRST_LANE, LANE, ROUTER}
 use Rattle.capture_chart.specs.Places.{count_place}
-use Rattle.svg_parts.specs.Parts.{Draws}
+use Rattle.svg_text.specs.Parts.{Draws}
 use Rattle.capture_chart.specs.Drawn.{connection_words, lane_octets, lanes_octets}
 use Rattle.capture_chart.proofs.LaneLemmas.{lanes_drawn_more}
-use Rattle.svg_parts.proofs.Drawings.{draws_then}
+use Rattle.svg_text.proofs.Drawings.{draws_then}
 use Rattle.capture_chart.proofs.lanes.draw_lanes.Goals as goal
 
 pub loop-lane-init : goal.loop-lane-init

@@ -1,7 +1,7 @@
 use Rattle.std.proofs.Common.{◌++◌, take}
 use Rattle.std.specs.Prelude.{codes}
 use Rattle.capture_chart.specs.declared.places.TheConstants.{ROUTER}
-use Rattle.svg_parts.specs.Parts.{Draws}
+use Rattle.svg_text.specs.Parts.{Draws}
 use Rattle.capture_chart.specs.Drawn.{lane_octets, lanes_octets}
 use Rattle.capture_chart.proofs.lanes.draw_lanes.Given as goal
 

@@ -4,8 +4,8 @@ use Rattle.credit_chart.specs.declared.scale.Scale.{Scale}
 use Rattle.credit_chart.specs.Curves.{curve_text}
 use Rattle.credit_chart.specs.Places.{count_of, scale_of}
 use Rattle.credit_chart.specs.Paths.{path_text}
-use Rattle.svg_parts.specs.Parts.{Draws}
-use Rattle.svg_parts.proofs.Drawings.{some_of}
+use Rattle.svg_text.specs.Parts.{Draws}
+use Rattle.svg_text.proofs.Drawings.{some_of}
 use Rattle.credit_chart.proofs.Drawing.{group_is, panel_drawn, panel_of}
 use Rattle.credit_chart.proofs.panel.draw_panel.Goals as goal
 

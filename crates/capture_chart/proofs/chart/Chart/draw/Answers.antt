@@ -5,7 +5,7 @@ use Rattle.capture_chart.specs.declared.arrow.Arrow.{Arrow}
 use Rattle.capture_chart.specs.Marks.{marking}
 use Rattle.capture_chart.specs.Shown.{shown, worded}
 use Rattle.capture_chart.specs.Places.{lane_place}
-use Rattle.svg_parts.specs.Parts.{Draws}
+use Rattle.svg_text.specs.Parts.{Draws}
 use Rattle.capture_chart.specs.Drawn.{HasArrows, all_lanes, arrows_octets}
 use Rattle.capture_chart.proofs.Drawings.{document_drawn}
 use Rattle.capture_chart.proofs.chart.Chart.draw.Goals as goal

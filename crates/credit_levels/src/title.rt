@@ -2,9 +2,9 @@
 
 ghost use Rattle.std.specs.Prelude.{◌≡◌, ◌++◌, decimal, IfOk, OnOk};
 ghost use Rattle.std.specs.String.{string_bytes};
-ghost use Rattle.credit_watching.specs.Drawn.{title_on};
+ghost use Rattle.credit_levels.specs.Drawn.{title_on};
 
-use credit_levels::PickedLink;
+use crate::pick::PickedLink;
 use itoa::Buffer;
 use std::alloc::{AllocError, Global};
 

@@ -3,10 +3,10 @@ use Rattle.std.specs.Prelude.{option_map}
 use Rattle.std.specs.String.{string_bytes}
 use Rattle.trace_events.specs.History.{history}
 use Rattle.credit_levels.specs.Levels.{AreOf}
-use Rattle.credit_watching.specs.Taken.{HasTaken}
-use Rattle.credit_watching.specs.Drawn.{DrawsRecords}
-use Rattle.credit_watching.proofs.SeenAs.{known_so}
-use Rattle.credit_watching.proofs.drawing.draw_credit.Goals as goal
+use Rattle.credit_levels.specs.Taken.{HasTaken}
+use Rattle.credit_levels.specs.Drawn.{DrawsRecords}
+use Rattle.credit_levels.proofs.SeenAs.{known_so}
+use Rattle.credit_levels.proofs.drawing.draw_credit.Goals as goal
 
 pub returns-clause-curves : goal.returns-clause-curves
 returns-clause-curves g c =

@@ -9,7 +9,7 @@ use Rattle.credit_chart.specs.declared.level.Level.{Level}
 use Rattle.credit_chart.specs.Curves.{HasCurves}
 use Rattle.credit_levels.specs.declared.pick.Pick.{Pick}
 use Rattle.credit_levels.specs.declared.pick.PickedLink.{PickedLink}
-use Rattle.credit_watching.specs.Drawn.{DrawsAt, DrawsRecords, DrawsTaken}
+use Rattle.credit_levels.specs.Drawn.{DrawsAt, DrawsRecords, DrawsTaken}
 
 place : PickedLink
 place = record { number = 7; connection = 1; channel = 0; handle = 2 }

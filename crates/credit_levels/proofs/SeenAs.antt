@@ -10,7 +10,7 @@ use Rattle.audit_core.specs.Watching.{Watched}
 use Rattle.credit_chart.specs.declared.level.Level.{Level}
 use Rattle.credit_chart.specs.Curves.{HasCurves}
 use Rattle.credit_levels.specs.declared.pick.PickedLink.{PickedLink}
-use Rattle.credit_watching.specs.Drawn.{DrawsAt, title_on}
+use Rattle.credit_levels.specs.Drawn.{DrawsAt, title_on}
 
 -- what is known of one follows from what is known of another
 module _ {V W : Type 0} (saw : V → RuleSet → List Record → Type 0) (refuses : V → RuleSet → List Record → Record → Type 0)

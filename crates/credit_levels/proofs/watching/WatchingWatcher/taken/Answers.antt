@@ -1,8 +1,8 @@
 use Rattle.std.proofs.Common.{◌∙◌, [], ◌∷◌, ◌++◌}
 use Rattle.std.proofs.lemmas.Result.{on_ok_weaker}
 use Rattle.state_answers.specs.Tables.{StandFor}
-use Rattle.credit_watching.proofs.Taking.{takes_more}
-use Rattle.credit_watching.proofs.watching.WatchingWatcher.taken.Goals as goal
+use Rattle.credit_levels.proofs.Taking.{takes_more}
+use Rattle.credit_levels.proofs.watching.WatchingWatcher.taken.Goals as goal
 
 pub returns : goal.returns
 returns c =

@@ -9,13 +9,14 @@ ghost use Rattle.audit_core.specs.Verdict.{AnswersRead};
 ghost use Rattle.credit_levels.specs.declared.pick.Pick as picks;
 ghost use Rattle.credit_chart.specs.Curves.{HasCurves};
 ghost use Rattle.credit_levels.specs.Levels.{AreOf, levels_of};
-ghost use Rattle.credit_watching.specs.Drawn.{Draws, DrawsTaken, title_on};
+ghost use Rattle.credit_levels.specs.Drawn.{Draws, DrawsTaken, title_on};
 
+use crate::levels::Levels;
+use crate::pick::{Pick, PickedLink};
 use crate::title::title_on;
 use crate::watching::Watching;
-use audit_core::{Verdict, audit_watched};
+use audit_core::{Verdict, audit_watched, audit_watched_forgetting};
 use credit_chart::draw_levels;
-use credit_levels::{Levels, Pick, PickedLink};
 use std::alloc::{AllocError, Global};
 use std::io::Read;
 
@@ -54,6 +55,32 @@ where
     let verdict = audit_watched(alloc, input, &mut watching);
     let text = draw_taken(alloc, title, watching.levels())?;
     Ok(Drawn { text, verdict })
+}
+
+/// The same as `draw_credit`, in memory that does not grow with a lawful capture. `None` where a record is none that an auditor which
+/// forgets takes: the same octets are then to be read once more from their start, by `draw_credit`.
+///
+/// # Errors
+///
+/// Memory was refused to draw it.
+pub fn draw_credit_forgetting<R: Read>(
+    alloc: Global,
+    title: &str,
+    pick: Pick<'_>,
+    input: R,
+) -> Result<Option<Drawn>, AllocError>
+where
+    R: Drop,
+    ensures answers { IfOk result (λ sure. IfSome sure (λ drawn. IfSome (R.remaining input) (λ octets. AnswersRead octets drawn.verdict))) }
+    ensures document { IfOk result (λ sure. IfSome sure (λ drawn. IfSome drawn.text (λ text. IsSvg (string_bytes text)))) }
+    ensures curves { IfOk result (λ sure. IfSome sure (λ drawn. IfSome (R.remaining input) (λ octets. DrawsTaken title.now pick.entry octets drawn.verdict (option_map string_bytes drawn.text)))) }
+{
+    let mut watching = Watching::new(alloc, pick);
+    let Some(verdict) = audit_watched_forgetting(alloc, input, &mut watching) else {
+        return Ok(None);
+    };
+    let text = draw_taken(alloc, title, watching.levels())?;
+    Ok(Some(Drawn { text, verdict }))
 }
 
 /// Draws the levels of the records so far, if a link is picked.

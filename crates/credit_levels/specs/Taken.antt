@@ -5,7 +5,7 @@ use Rattle.capture_form.specs.Rules.{RuleSet}
 use Rattle.trace_events.specs.History.{history}
 use Rattle.credit_levels.specs.declared.pick.Pick.{Pick}
 use Rattle.credit_levels.specs.Levels.{AreOf}
-use Rattle.credit_watching.specs.declared.watching.Watching.{Watching}
+use Rattle.credit_levels.specs.declared.watching.Watching.{Watching}
 
 -- what had the levels of no records, of a link that is picked, has those of these records, judged by these rules, of the same link
 abbrev pub HasTaken : Watching → Watching → RuleSet → List Record → Type 0

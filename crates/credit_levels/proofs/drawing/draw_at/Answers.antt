@@ -3,7 +3,7 @@ use Rattle.std.proofs.lemmas.Result.{IfOk-weaker}
 use Rattle.std.specs.String.{string_bytes}
 use Rattle.credit_chart.specs.Curves.{HasCurves}
 use Rattle.credit_levels.specs.Levels.{levels_of}
-use Rattle.credit_watching.proofs.drawing.draw_at.Goals as goal
+use Rattle.credit_levels.proofs.drawing.draw_at.Goals as goal
 
 pub returns-clause-curves : goal.returns-clause-curves
 returns-clause-curves c =

@@ -1,8 +1,9 @@
 //! The levels of the records that an audit takes.
 
+use crate::levels::Levels;
+use crate::pick::Pick;
 use audit_core::{Ledger, Watcher};
 use capture_form::{Record, RuleSet};
-use credit_levels::{Levels, Pick};
 use std::alloc::{AllocError, Global};
 
 /// Keeps what stands behind each record that is taken, of the link that is picked.
@@ -34,7 +35,7 @@ impl<'p> Watching<'p> {
 }
 
 impl Watcher for Watching<'_> {
-    ghost use Rattle.credit_watching.specs.Taken.{HasTaken};
+    ghost use Rattle.credit_levels.specs.Taken.{HasTaken};
 
     ghost saw = { HasTaken };
 

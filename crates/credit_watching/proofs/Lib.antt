@@ -1,4 +1,0 @@
--- proofs/Lib.antt
-mod Taking
-mod SeenAs
-mod Examples

@@ -1,3 +1,0 @@
--- specs/Lib.antt
-pub mod Taken
-pub mod Drawn
