@@ -2,7 +2,7 @@
 
 ghost use Rattle.capture_form.specs.declared.records.Record.{Record};
 ghost use Rattle.std.specs.Prelude.{List, ◌≡◌, IfSome, option_map};
-ghost use Rattle.state_ledger.specs.Ledger.{Stands, broken_behind};
+ghost use Rattle.state_ledger.specs.Ledger.{StandsWhole, broken_behind};
 ghost use Rattle.refusal_showing.specs.Refused.{IsReasonBehind};
 
 use crate::contents::Contents;
@@ -19,9 +19,9 @@ pub fn explain_refused<'a>(
     entry: &ReadRecord<'a>,
 ) -> Option<Reason<'a>>
     // There is a reason just where the record breaks a clause behind those of the ledger, and it names the first one.
-    ensures clause { (records : List Record) → Stands rules.now ledger.now records → option_map (λ reason. reason.clause) result ≡ broken_behind rules.now records entry.now }
+    ensures clause { (records : List Record) → StandsWhole rules.now ledger.now records → option_map (λ reason. reason.clause) result ≡ broken_behind rules.now records entry.now }
     // It has what this clause compares, and each number is the law's at this record.
-    ensures facts { (records : List Record) → Stands rules.now ledger.now records → IfSome result (IsReasonBehind rules.now records entry.now) }
+    ensures facts { (records : List Record) → StandsWhole rules.now ledger.now records → IfSome result (IsReasonBehind rules.now records entry.now) }
 {
     let looked = ledger.looked();
     let number = ledger.tally().records;

@@ -9,7 +9,7 @@ ghost use Rattle.program_ends.specs.InputSource.{path_of};
 ghost use Rattle.show_program.specs.Words.{chart_of, credit_of, is_why, packets_of};
 
 use crate::charts::write_chart;
-use crate::credits::write_credit;
+use crate::credits::{write_credit, write_credit_of_file};
 use crate::lines::Lines;
 use crate::marked::write_marked;
 use crate::packets::write_packets;
@@ -21,7 +21,7 @@ use capture_words::{Ending, NotWritten, Page, View, show_capture};
 use program_ends::{InputSource, NOT_WRITTEN, WORDS_FAULT, is_refused_growth, tell_refused_words};
 use std::alloc::Global;
 use std::convert::AsStr;
-use std::io::{Read, Write};
+use std::io::{Read, Seek, Write};
 use std::rt::Files;
 use std::{fs, io};
 
@@ -127,7 +127,7 @@ fn show_source<F: Files, R: Read, O: Write, E: Write>(
             files, alloc, words, mode, is_watched, input, out, err,
         ),
         InputSource::File(path) => match fs::open(files, path) {
-            Ok(file) => show_input(files, alloc, words, mode, is_watched, file, out, err),
+            Ok(file) => show_file(files, alloc, words, mode, is_watched, file, out, err),
             Err(error) => tell(&ending_unopened(&error), out),
         },
     }
@@ -142,6 +142,42 @@ fn ending_unopened(error: &io::Error) -> Ending
         Ending::NoMemory
     } else {
         Ending::Unreadable(0)
+    }
+}
+
+/// Shows a capture that is read from a file, as `show_input` does; curves in memory that does not grow with a lawful capture.
+fn show_file<F: Files, I: Read + Seek, O: Write, E: Write>(
+    files: &F,
+    alloc: Global,
+    words: Words<'_>,
+    mode: Mode<'_>,
+    is_watched: bool,
+    file: I,
+    out: &mut O,
+    err: &mut E,
+) -> u8
+where
+    I: Drop,
+    ensures told { is_why mode.entry ≡ false → credit_of mode.entry ≡ None → result ≢ NOT_WRITTEN → result ≢ NO_FILE → result ≢ TOO_MANY → TellsSome (O.contents out.old) (O.contents out.new) result }
+    ensures either { result ≢ NOT_WRITTEN → result ≢ NO_FILE → result ≢ TOO_MANY → result ≢ NO_LINK
+        → TellsSome (O.contents out.old) (O.contents out.new) result ⊎ ExplainsSome (O.contents out.old) (O.contents out.new) result }
+    ensures unasked { packets_of mode.entry ≡ None → chart_of mode.entry ≡ None → credit_of mode.entry ≡ None → result ≢ NO_FILE }
+    ensures packets { chart_of mode.entry ≡ None → credit_of mode.entry ≡ None → result ≡ NO_FILE → Appends (O.contents out.old) (O.contents out.new) no_packets }
+    ensures chart { packets_of mode.entry ≡ None → result ≡ NO_FILE → Appends (O.contents out.old) (O.contents out.new) no_chart }
+    ensures unmade { result ≡ NO_FILE → TellsNoFile (O.contents out.old) (O.contents out.new) }
+    ensures few { chart_of mode.entry ≡ None → result ≢ TOO_MANY }
+    ensures linked { credit_of mode.entry ≡ None → result ≢ NO_LINK }
+    ensures many { result ≡ TOO_MANY → Appends (O.contents out.old) (O.contents out.new) too_many }
+    ensures link { result ≡ NO_LINK → Appends (O.contents out.old) (O.contents out.new) no_link }
+    ensures quiet { is_watched ≡ false → err.new ≡ err.old }
+    ensures status { (result ≤ NO_LINK) ⊎ (result ≡ NOT_WRITTEN) }
+{
+    match mode {
+        Mode::Credit(path) => {
+            let mut file = file;
+            write_credit_of_file(files, alloc, words, path, &mut file, out)
+        }
+        _ => show_input(files, alloc, words, mode, is_watched, file, out, err),
     }
 }
 
