@@ -1,9 +1,0 @@
-pub mod Candidates
-pub mod Lacking
-pub mod Standing
-pub mod Draining
-pub mod Topping
-pub mod Windows
-pub mod Parts
-pub mod Credits
-pub mod Drains
