@@ -1,4 +1,0 @@
-pub mod BySession
-pub mod AddressesToTry
-pub mod Waking
-pub mod Waiting
