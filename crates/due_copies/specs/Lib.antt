@@ -1,4 +1,0 @@
-pub mod Candidates
-pub mod ByLink
-pub mod Lists
-pub mod Copies
