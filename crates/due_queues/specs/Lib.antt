@@ -1,3 +1,0 @@
-pub mod AddressCounts
-pub mod Picks
-pub mod Queues
