@@ -6,8 +6,8 @@ ghost use Rattle.number_groups.specs.Groups.{is_member};
 ghost use Rattle.due_outcomes.specs.Parked.{IsLeft, is_parked};
 ghost use Rattle.due_outcomes.specs.Candidates.{Grows};
 
-use event_effects::add_group;
 use number_groups::{Ascending, Groups};
+use state_answers::add_group;
 use std::alloc::{AllocError, Global};
 
 /// Deliveries to clients, each under the delivery from a client that it carries. One that is let go may still stand under it.

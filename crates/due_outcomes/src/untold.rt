@@ -22,16 +22,15 @@ ghost use Rattle.state_outgoing.specs.SentTables.{sent_in};
 ghost use Rattle.state_tables.specs.Connections.{IsLawfulNext};
 ghost use Rattle.number_groups.specs.Ascending.{count_of, has};
 ghost use Rattle.state_answers.specs.Tables.{TellsOf};
-ghost use Rattle.event_effects.specs.Effects.{AreEffects};
+ghost use Rattle.state_answers.specs.Effects.{AreEffects};
 ghost use Rattle.due_outcomes.specs.DueOutcomes.{IsDueOutcome};
 ghost use Rattle.due_outcomes.specs.Untold.{HasUntold, IsOn, KeepsOn};
 
 use crate::outcome::{DueOutcome, outcome_of};
 use capture_form::RuleSet;
-use event_effects::{EventEffects, add, add_octet_group, add_of_links};
 use number_groups::{Ascending, Groups, OctetGroups};
 use pairing_cert::Note;
-use state_answers::LentTables;
+use state_answers::{EventEffects, LentTables, add, add_octet_group, add_of_links};
 use state_incoming::HeldDelivery;
 use state_outgoing::SentDeliveries;
 use std::alloc::{AllocError, Global};

@@ -34,14 +34,14 @@ use Rattle.route_dues.proofs.Turns.{outcome_in_turn, settling_in_turn, part_in_t
 use Rattle.due_outcomes.specs.DueOutcomes.{IsDueOutcome}
 use Rattle.due_outcomes.specs.Settlings.{IsDueSettling}
 use Rattle.due_outcomes.specs.declared.outcome.DueOutcome.{DueOutcome}
-use Rattle.due_flows.specs.Parts.{IsDuePart}
-use Rattle.due_flows.specs.Draining.{IsDrainable}
-use Rattle.due_flows.specs.Topping.{IsToppable}
-use Rattle.due_flows.specs.Lacking.{IsLacking}
-use Rattle.due_flows.specs.declared.parts.DuePart.{DuePart}
-use Rattle.due_copies.specs.Copies.{IsDueCopy}
-use Rattle.due_waiting.specs.Waiting.{IsDueWaiting}
-use Rattle.due_flows.specs.declared.begin.DueBegin.{DueBegin}
+use Rattle.due_lists.specs.Parts.{IsDuePart}
+use Rattle.due_lists.specs.Draining.{IsDrainable}
+use Rattle.due_lists.specs.Topping.{IsToppable}
+use Rattle.due_lists.specs.Lacking.{IsLacking}
+use Rattle.due_lists.specs.declared.parts.DuePart.{DuePart}
+use Rattle.due_lists.specs.Copies.{IsDueCopy}
+use Rattle.due_lists.specs.Waiting.{IsDueWaiting}
+use Rattle.due_lists.specs.declared.begin.DueBegin.{DueBegin}
 use Rattle.route_work.specs.declared.due.Due.{Due}
 use Rattle.route_work.specs.declared.due.Due.TheVariants as dues
 use Rattle.route_work.specs.Dues.{IsDue, IsFrameFor, IsNextFrame, is_in_turn, connection_of, note_of}

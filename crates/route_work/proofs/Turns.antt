@@ -8,9 +8,9 @@ use Rattle.trace_events.proofs.Judged.{history-judged}
 use Rattle.trace_values.specs.View.{incoming_view}
 use Rattle.trace_duties.specs.Quiet.{none_stands_still, none_is_undrained, none_lacks_credit}
 use Rattle.trace_duties.specs.Turn.{is_all_told, is_all_sent, is_all_drained, is_all_credited, is_first_to_begin}
-use Rattle.due_waiting.specs.Waiting.{IsEarliest}
-use Rattle.due_flows.specs.declared.begin.DueBegin.{DueBegin}
-use Rattle.due_waiting.proofs.InVain.{first-begins}
+use Rattle.due_lists.specs.Waiting.{IsEarliest}
+use Rattle.due_lists.specs.declared.begin.DueBegin.{DueBegin}
+use Rattle.due_lists.proofs.InVain.{first-begins}
 use Rattle.route_work.specs.Work.{IsAllTold, IsAllSent}
 
 pub both : (a b : Bool) → a ≡ true → b ≡ true → a && b ≡ true

@@ -18,12 +18,12 @@ use Rattle.route_answers.specs.Writing.{frame_of}
 use Rattle.route_dues.specs.Writing.{writing, IsReadAgain, IsInOrder, MayFollow}
 use Rattle.due_outcomes.specs.DueOutcomes.{IsDueOutcome}
 use Rattle.due_outcomes.specs.Settlings.{IsDueSettling}
-use Rattle.due_flows.specs.Parts.{IsDuePart}
-use Rattle.due_flows.specs.Draining.{IsDrainable}
-use Rattle.due_flows.specs.Topping.{IsToppable}
-use Rattle.due_flows.specs.Lacking.{IsLacking}
-use Rattle.due_copies.specs.Copies.{IsDueCopy}
-use Rattle.due_waiting.specs.Waiting.{IsDueWaiting}
+use Rattle.due_lists.specs.Parts.{IsDuePart}
+use Rattle.due_lists.specs.Draining.{IsDrainable}
+use Rattle.due_lists.specs.Topping.{IsToppable}
+use Rattle.due_lists.specs.Lacking.{IsLacking}
+use Rattle.due_lists.specs.Copies.{IsDueCopy}
+use Rattle.due_lists.specs.Waiting.{IsDueWaiting}
 use Rattle.route_work.specs.declared.due.Due.{Due}
 use Rattle.route_work.specs.declared.due.Due.TheVariants as dues
 

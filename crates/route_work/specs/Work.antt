@@ -5,12 +5,12 @@ use Rattle.trace_events.specs.Event.{Event}
 use Rattle.trace_duties.specs.Quiet.{none_waits_in_vain, none_stands_still, none_is_untold, none_lacks_credit, none_lacks_window, none_is_undrained, copies_are_sent, none_is_unsettled}
 use Rattle.due_outcomes.specs.Untold.{HasUntold}
 use Rattle.due_outcomes.specs.Unsettled.{HasUnsettled}
-use Rattle.due_flows.specs.Parts.{HasParts}
-use Rattle.due_flows.specs.Drains.{HasDrains}
-use Rattle.due_flows.specs.Credits.{HasCredits}
-use Rattle.due_flows.specs.Windows.{HasLacking}
-use Rattle.due_waiting.specs.Waiting.{HasWaiting}
-use Rattle.due_copies.specs.Copies.{HasUnsent}
+use Rattle.due_lists.specs.Parts.{HasParts}
+use Rattle.due_lists.specs.Drains.{HasDrains}
+use Rattle.due_lists.specs.Credits.{HasCredits}
+use Rattle.due_lists.specs.Windows.{HasLacking}
+use Rattle.due_lists.specs.Waiting.{HasWaiting}
+use Rattle.due_lists.specs.Copies.{HasUnsent}
 use Rattle.route_work.specs.declared.telling.Telling.{Telling}
 use Rattle.route_work.specs.declared.sending.Sending.{Sending}
 use Rattle.route_work.specs.declared.flowing.Flowing.{Flowing}

@@ -1,6 +1,6 @@
 //! What may be due.
 
-use due_flows::{DueBegin, DuePart};
+use due_lists::{DueBegin, DuePart};
 use due_outcomes::DueOutcome;
 use trace_events::Session;
 use trace_values::{Link, Outgoing};

@@ -5,17 +5,16 @@ ghost use Rattle.capture_form.specs.Rules.{RuleSet};
 ghost use Rattle.capture_form.specs.declared.records.Record.{Record};
 ghost use Rattle.trace_events.specs.History.{history};
 ghost use Rattle.state_tables.specs.Connections.{IsLawfulNext};
-ghost use Rattle.state_addresses.specs.Addressed.{IsAddressed};
+ghost use Rattle.state_tables.specs.Addressed.{IsAddressed};
 ghost use Rattle.trace_duties.specs.Quiet.{is_quiet};
 ghost use Rattle.trace_values.specs.View.{Events, event_view};
 ghost use Rattle.state_answers.specs.Tables.{TellsOf};
-ghost use Rattle.event_effects.specs.Effects.{AreEffects};
+ghost use Rattle.state_answers.specs.Effects.{AreEffects};
 ghost use Rattle.route_work.specs.Dues.{IsDue, is_in_turn};
 
 use crate::Due;
 use capture_form::RuleSet;
-use event_effects::EventEffects;
-use state_answers::LentTables;
+use state_answers::{EventEffects, LentTables};
 use std::alloc::{AllocError, Global};
 use trace_values::Event;
 

@@ -8,15 +8,14 @@ ghost use Rattle.trace_events.specs.History.{history};
 ghost use Rattle.trace_values.specs.View.{event_view};
 ghost use Rattle.state_tables.specs.Connections.{IsLawfulNext};
 ghost use Rattle.state_answers.specs.Tables.{TellsOf};
-ghost use Rattle.event_effects.specs.Effects.{AreEffects};
+ghost use Rattle.state_answers.specs.Effects.{AreEffects};
 ghost use Rattle.route_work.specs.Dues.{IsDue, is_in_turn};
 ghost use Rattle.route_work.specs.Work.{HasFlowing, IsAllGiven, IsAllSent, IsAllTold};
 
 use crate::Due;
 use capture_form::RuleSet;
-use due_flows::{Credits, Drains, Windows};
-use event_effects::EventEffects;
-use state_answers::LentTables;
+use due_lists::{Credits, Drains, Windows};
+use state_answers::{EventEffects, LentTables};
 use std::alloc::{AllocError, Global};
 use trace_values::Event;
 

@@ -17,8 +17,7 @@ ghost use Rattle.trace_values.specs.View.{Events, event_view};
 use crate::dues::Dues;
 use crate::record_of;
 use capture_form::{Record, RuleSet};
-use event_effects::EventEffects;
-use state_answers::{LentTables, Tables};
+use state_answers::{EventEffects, LentTables, Tables, completed_for};
 use state_ledger::HeldEvent;
 use std::alloc::{AllocError, Global};
 use trace_judge::{judge_unopened, open};
@@ -109,7 +108,7 @@ impl<D: Dues> RouterState<D> {
             IsRouterState D.has_all rules.now self.old records → IsRouterState D.has_all rules.now self.new (records ++ r ∷ [])) }
     {
         let lent = self.tables.looked();
-        let completed = lent.deliveries.completed_for(event);
+        let completed = completed_for(lent.deliveries, event);
         let address = completed.octets();
         let effects = EventEffects::of(self.alloc, event, &lent)?;
         self.dues.follow(rules, event, address, &lent, &effects)?;

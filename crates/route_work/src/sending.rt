@@ -9,21 +9,18 @@ ghost use Rattle.trace_duties.specs.Quiet.{none_stands_still};
 ghost use Rattle.trace_duties.specs.Turn.{is_all_told, is_first_to_begin};
 ghost use Rattle.trace_values.specs.View.{Events, event_view, incoming_view};
 ghost use Rattle.state_tables.specs.Connections.{IsLawfulNext};
-ghost use Rattle.state_addresses.specs.Addressed.{IsAddressed};
+ghost use Rattle.state_tables.specs.Addressed.{IsAddressed};
 ghost use Rattle.state_answers.specs.Tables.{TellsOf};
-ghost use Rattle.event_effects.specs.Effects.{AreEffects};
-ghost use Rattle.due_copies.specs.Copies.{IsDueCopy};
-ghost use Rattle.due_waiting.specs.Waiting.{IsDueWaiting};
+ghost use Rattle.state_answers.specs.Effects.{AreEffects};
+ghost use Rattle.due_lists.specs.Copies.{IsDueCopy};
+ghost use Rattle.due_lists.specs.Waiting.{IsDueWaiting};
 ghost use Rattle.route_work.specs.Dues.{IsDue, is_in_turn};
 ghost use Rattle.route_work.specs.Work.{HasSending, IsAllSent, IsAllTold};
 
 use crate::Due;
 use capture_form::RuleSet;
-use due_copies::UnsentCopies;
-use due_flows::{DeliveriesInProgress, DueBegin};
-use due_waiting::Waiting;
-use event_effects::EventEffects;
-use state_answers::LentTables;
+use due_lists::{DeliveriesInProgress, DueBegin, UnsentCopies, Waiting};
+use state_answers::{EventEffects, LentTables};
 use std::alloc::{AllocError, Global};
 use trace_values::Event;
 

@@ -8,8 +8,7 @@ use crate::sending::Sending;
 use crate::telling::Telling;
 use crate::{Due, Dues};
 use capture_form::RuleSet;
-use event_effects::EventEffects;
-use state_answers::LentTables;
+use state_answers::{EventEffects, LentTables};
 use std::alloc::{AllocError, Global};
 use trace_values::Event;
 

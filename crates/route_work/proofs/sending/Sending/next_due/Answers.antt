@@ -1,7 +1,7 @@
 use Rattle.std.proofs.Common.{Option, Some, None, IfSome}
 use Rattle.trace_events.specs.History.{history}
-use Rattle.due_copies.specs.Copies.{IsDueCopy}
-use Rattle.due_waiting.specs.Waiting.{IsDueWaiting, IsEarliest}
+use Rattle.due_lists.specs.Copies.{IsDueCopy}
+use Rattle.due_lists.specs.Waiting.{IsDueWaiting, IsEarliest}
 use Rattle.route_work.proofs.Turns.{all_told, all_gone, earliest_first}
 use Rattle.route_work.proofs.sending.Sending.next_due.Goals as goal
 
