@@ -1,1 +1,6 @@
+pub mod Replies
+pub mod Outputs
+pub mod Drafts
+pub mod KernelState
+pub mod Kernels
 pub mod Cores

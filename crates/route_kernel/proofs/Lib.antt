@@ -1,4 +1,0 @@
-mod Extended
-mod Histories
-pub mod Stepped
-mod KernelStateExamples

@@ -1,2 +1,0 @@
-pub mod KernelState
-pub mod Kernels
