@@ -7,3 +7,10 @@ pub mod GivenOn
 mod FramesOn
 mod Examples
 mod LacedExamples
+mod Closes
+mod Laced
+mod Putting
+mod Serves
+mod NotedOn
+pub mod ServedOn
+mod ScriptExamples

@@ -10,3 +10,6 @@ pub mod Closing
 pub mod Taking
 pub mod Ticking
 pub mod Pausing
+pub mod Streams
+pub mod Scripts
+pub mod Served

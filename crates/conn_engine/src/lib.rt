@@ -1,5 +1,5 @@
-//! One connection between a device and a router, whatever the two are: what is asked of either (`Gate` and `Port`), and
-//! the engine between them (`Engine`).
+//! One connection between a device and a router, whatever the two are: what is asked of either (`Gate` and `Port`), the engine
+//! between them (`Engine`), and the turn that moves the octets (`serve`).
 //!
 //! An engine is fed the octets that a device delivers, and tells the router what they are. It takes the router's frames,
 //! and gives the octets that the device is to take (`Output`). It touches neither a device nor a clock, and waits for
@@ -11,6 +11,15 @@
 //! - `feeding`: what it does with the octets of its client; `taking`: what it takes from its port;
 //! - `output`: octets that wait to be given; `frame_ends`: where the router's open and its close end among them;
 //! - `said`: what a frame says of the connection itself; `silence`: how long a client has heard nothing.
+//!
+//! A turn takes the router's frames and tells the engine the moment, writes what waits, reads where the engine takes more, and ends
+//! the connection where its gate has ended or failed, or its engine is over and all is given. Whoever calls it decides when, and
+//! waits in between. Which octets the gate took, a `Script` tells together with the frames of the engine's port, so that these are
+//! not kept once more.
+//!
+//! - `serving`: a turn;
+//! - `noting`: the engine's calls that put octets, and what the script notes of each;
+//! - `script`: what is kept of the octets that a gate took.
 #![tactic(auto)]
 
 mod engine;
@@ -19,9 +28,12 @@ mod fault;
 mod feeding;
 mod frame_ends;
 mod gate;
+mod noting;
 mod output;
 mod port;
 mod said;
+mod script;
+mod serving;
 mod silence;
 mod taking;
 
@@ -30,4 +42,6 @@ pub use fault::EngineFault;
 pub use gate::{Delivered, Gate, Ready, Taken};
 pub use output::Output;
 pub use port::{Port, PortFault};
+pub use script::Script;
+pub use serving::{Status, Stop, Turn, serve};
 pub use silence::EMPTY_FRAME;

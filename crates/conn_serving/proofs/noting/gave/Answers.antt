@@ -1,6 +1,0 @@
-use Rattle.conn_serving.proofs.NotedOn.{noted_given}
-use Rattle.conn_serving.proofs.noting.gave.Goals as goal
-
-pub returns-clause-noted : goal.returns-clause-noted
-returns-clause-noted g c octets taken h =
-    noted_given c.args.engine.now c.gave-2.new.self c.args.script.now c.gave.new.self octets taken c.args.n c.gave-2.ensures.value c.requires.waiting c.gave.ensures h
