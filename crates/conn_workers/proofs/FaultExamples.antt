@@ -1,7 +1,7 @@
 -- Whose reason is told where workers stop.
 use Rattle.std.proofs.Common.{◌≡◌, ℕ, [], ◌∷◌, Option, Some, None, Ok, Err, refl}
-use Rattle.conn_serving.specs.declared.serving.Stop.{Stop}
-use Rattle.conn_serving.specs.declared.serving.Stop.TheVariants as stops
+use Rattle.conn_engine.specs.declared.serving.Stop.{Stop}
+use Rattle.conn_engine.specs.declared.serving.Stop.TheVariants as stops
 use Rattle.conn_workers.specs.Faults.{first_stop}
 
 none_stopped : first_stop {A = ℕ} (Ok 1 ∷ Ok 2 ∷ []) ≡ None

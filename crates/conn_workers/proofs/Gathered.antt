@@ -8,12 +8,12 @@ use Rattle.core_exchange.specs.declared.seat.Seat.{Seat}
 use Rattle.trace_clauses.specs.Kept.{AreFirst}
 use Rattle.core_exchange.specs.Seats.{SeatAgrees, SeatsAgree, inputs_on, outs_on}
 use Rattle.conn_workers.specs.declared.report.ConnReport.{ConnReport}
-use Rattle.conn_serving.specs.Served.{IsServed}
+use Rattle.conn_engine.specs.Served.{IsServed}
 use Rattle.conn_workers.specs.Lines.{IsDone, IsFrom}
 use Rattle.conn_workers.specs.Reports.{AreReported, IsReported}
 use Rattle.conn_engine.specs.Lacing.{IsLaced}
 use Rattle.conn_engine.proofs.LacedOn.{laced_frames}
-use Rattle.conn_serving.specs.Streams.{IsWritten}
+use Rattle.conn_engine.specs.Streams.{IsWritten}
 use Rattle.stream_reading.specs.Steps.{StepText}
 
 -- frames that begin others

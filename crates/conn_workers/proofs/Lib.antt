@@ -1,3 +1,4 @@
 mod Opens
 mod Gathered
 mod FaultExamples
+pub mod Listing

@@ -1,8 +1,8 @@
 -- Lists of lines of which all are open, or all behind the first.
 use Rattle.std.proofs.Common.{◌≡◌, List, [], ◌∷◌, ◌++◌, All, drop, take, set, sym, subst}
 use Rattle.std.proofs.lemmas.List.Elements.{All-cons, All-set, All-drop, All-take, All-append}
-use Rattle.conn_serving.specs.declared.serving.Status.{Status}
-use Rattle.conn_serving.specs.declared.serving.Status.TheVariants.{Open}
+use Rattle.conn_engine.specs.declared.serving.Status.{Status}
+use Rattle.conn_engine.specs.declared.serving.Status.TheVariants.{Open}
 
 -- an open one was put in front
 pub open_front : (xs ys : List Status) (x : Status) → ys ≡ x ∷ xs → x ≡ Open → All (λ s. s ≡ Open) xs → All (λ s. s ≡ Open) ys

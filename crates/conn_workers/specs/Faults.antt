@@ -1,7 +1,7 @@
 -- Why a run comes to no report.
 use Rattle.std.specs.Prelude.{ℕ, List, [], ◌∷◌, Option, Some, None, Result, Ok, Err}
 use Rattle.core_exchange.specs.Captures.{IsOfCore}
-use Rattle.conn_serving.specs.declared.serving.Stop.{Stop}
+use Rattle.conn_engine.specs.declared.serving.Stop.{Stop}
 use Rattle.conn_workers.specs.declared.report.RunFault.{RunFault}
 use Rattle.conn_workers.specs.declared.report.RunFault.TheVariants.{Memory, Device, Mismatch, CoreFailed}
 

@@ -1,7 +1,7 @@
 -- What a worker keeps of one connection.
 use Rattle.std.specs.Prelude.{◌≡◌, ℕ, Bool, List, Some, slice_get}
 use Rattle.core_exchange.specs.declared.seat.Seat.{Seat}
-use Rattle.conn_serving.specs.Served.{IsServed}
+use Rattle.conn_engine.specs.Served.{IsServed}
 
 -- the gate is that of its number, after some calls
 pub record IsFrom {G : Type 0} (gates : List G) (Follows : G → G → Type 0) (number : ℕ) (gate : G) : Type 0 where

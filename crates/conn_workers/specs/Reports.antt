@@ -8,8 +8,8 @@ use Rattle.trace_clauses.specs.Kept.{AreFirst}
 use Rattle.core_exchange.specs.Captures.{IsOfCore}
 use Rattle.core_exchange.specs.Seats.{inputs_on, outs_on, owned_below}
 use Rattle.conn_workers.specs.declared.report.ConnReport.{ConnReport}
-use Rattle.conn_serving.specs.Served.{IsServed}
-use Rattle.conn_serving.specs.Streams.{IsWritten}
+use Rattle.conn_engine.specs.Served.{IsServed}
+use Rattle.conn_engine.specs.Streams.{IsWritten}
 use Rattle.conn_workers.specs.Lines.{IsFrom}
 
 module _ {G : Type 0} (gates : List G) (Follows : G → G → Type 0) (Delivered Took : G → List ℕ → Type 0) (ended : G → Bool) where

@@ -1,11 +1,10 @@
 //! A line that has ended, and its two halves.
 
 ghost use Rattle.std.specs.Prelude.{◌≡◌};
-ghost use Rattle.conn_serving.specs.declared.serving.Status.TheVariants.{Ended};
+ghost use Rattle.conn_engine.specs.declared.serving.Status.TheVariants.{Ended};
 
 use crate::line::{Line, Origin};
-use conn_engine::Gate;
-use conn_serving::Script;
+use conn_engine::{Gate, Script};
 use core_exchange::{ExchangePort, Seat};
 use std::marker::{Model, PhantomData};
 use std::snapshot::Snapshot;
@@ -22,7 +21,7 @@ pub(crate) struct Done<G: Gate, J: Origin<G>> {
 
 impl<G: Gate, J: Origin<G>> Model for Done<G, J> {
     ghost use Rattle.core_exchange.specs.declared.seat.Seat.{Seat};
-    ghost use Rattle.conn_serving.specs.Scripts.{octets_taken};
+    ghost use Rattle.conn_engine.specs.Scripts.{octets_taken};
     ghost use Rattle.conn_workers.specs.Lines.{IsDone};
 
     ghost Value = { Seat };
@@ -43,7 +42,7 @@ pub(crate) struct Part<G: Gate, J: Origin<G>> {
 
 impl<G: Gate, J: Origin<G>> Model for Part<G, J> {
     ghost use Rattle.core_exchange.specs.declared.seat.Seat.{Seat};
-    ghost use Rattle.conn_serving.specs.Scripts.{octets_taken};
+    ghost use Rattle.conn_engine.specs.Scripts.{octets_taken};
     ghost use Rattle.conn_workers.specs.Lines.{IsDone};
 
     ghost Value = { Seat };
@@ -96,7 +95,7 @@ impl<G: Gate, J: Origin<G>> Done<G, J> {
 }
 
 impl<G: Gate, J: Origin<G>> Part<G, J> {
-    ghost use Rattle.conn_serving.specs.Scripts.{octets_taken};
+    ghost use Rattle.conn_engine.specs.Scripts.{octets_taken};
     ghost use Rattle.conn_workers.specs.Lines.{IsDone};
 
     /// The gate, and the script of the octets that it took.

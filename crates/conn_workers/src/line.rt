@@ -1,13 +1,12 @@
 //! A gate with its engine.
 
 ghost use Rattle.std.specs.Prelude.{◌≡◌, ◌<◌, [], List, ℕ, length, map, IfOk, OnOk};
-ghost use Rattle.conn_serving.specs.declared.serving.Status.TheVariants.{Open, Ended};
-ghost use Rattle.conn_serving.specs.Scripts.{octets_taken};
-ghost use Rattle.conn_serving.specs.Served.{status_after};
+ghost use Rattle.conn_engine.specs.declared.serving.Status.TheVariants.{Open, Ended};
+ghost use Rattle.conn_engine.specs.Scripts.{octets_taken};
+ghost use Rattle.conn_engine.specs.Served.{status_after};
 ghost use Rattle.conn_workers.specs.Lines.{IsDone};
 
-use conn_engine::{Engine, Gate, Port, Ready};
-use conn_serving::{Script, Status, Stop, Turn, serve};
+use conn_engine::{Engine, Gate, Port, Ready, Script, Status, Stop, Turn, serve};
 use core_exchange::{ExchangePort, Seat};
 use std::alloc::Global;
 use std::marker::{Model, PhantomData};
@@ -49,8 +48,8 @@ pub(crate) struct Line<G: Gate, P: Port, J: Origin<G>> {
 
 impl<G: Gate, P: Port, J: Origin<G>> Model for Line<G, P, J> {
     ghost use Rattle.std.specs.Prelude.{◌≡◌};
-    ghost use Rattle.conn_serving.specs.declared.serving.Status.{Status};
-    ghost use Rattle.conn_serving.specs.Served.{LineHolds};
+    ghost use Rattle.conn_engine.specs.declared.serving.Status.{Status};
+    ghost use Rattle.conn_engine.specs.Served.{LineHolds};
     ghost use Rattle.conn_workers.specs.Lines.{IsFrom};
 
     ghost Value = { Status };
@@ -84,7 +83,7 @@ impl<G: Gate, J: Origin<G>> Start<G, J> {
 
 impl<G: Gate, P: Port, J: Origin<G>> Line<G, P, J> {
     /// The line of a gate and a port of its number.
-    #[tactic(auto, using(conn_serving::proofs::ServedOn::open_new))]
+    #[tactic(auto, using(conn_engine::proofs::ServedOn::open_new))]
     pub(crate) fn new(alloc: Global, start: Start<G, J>, port: P) -> Line<G, P, J>
         requires conn { P.connection port ≡ start }
         requires items { P.items port ≡ [] }
@@ -132,7 +131,7 @@ impl<G: Gate, P: Port, J: Origin<G>> Line<G, P, J> {
     /// # Errors
     ///
     /// `Device`, where the gate answers it.
-    #[tactic(auto, using(conn_serving::proofs::ServedOn::open_kept))]
+    #[tactic(auto, using(conn_engine::proofs::ServedOn::open_kept))]
     pub(crate) fn wait(&mut self) -> Result<(), Stop>
         requires { self.old ≡ Open }
         ensures { self.new ≡ Open }

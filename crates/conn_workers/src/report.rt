@@ -1,11 +1,11 @@
 //! What a run comes to.
 
 ghost use Rattle.std.specs.Prelude.{◌≡◌, IfOk};
-ghost use Rattle.conn_serving.specs.Scripts.{octets_taken};
+ghost use Rattle.conn_engine.specs.Scripts.{octets_taken};
 ghost use Rattle.conn_workers.specs.Faults.{fault_number};
 
 use capture_form::{Capture, Frame, What};
-use conn_serving::Script;
+use conn_engine::Script;
 use std::alloc::{AllocError, Global};
 use std::marker::Model;
 
@@ -28,7 +28,7 @@ pub struct TakenOctets {
 }
 
 impl Model for TakenOctets {
-    ghost use Rattle.conn_serving.specs.Scripts.{octets_taken};
+    ghost use Rattle.conn_engine.specs.Scripts.{octets_taken};
     ghost use Rattle.conn_workers.specs.Octets.{Octets};
 
     ghost Value = { Octets };

@@ -1,7 +1,7 @@
 //! A whole run.
 
 ghost use Rattle.std.specs.Prelude.{◌≡◌, ◌<◌, ◌≤◌, ◌+◌, ◌^◌, [], length, IfOk, IfErr, Err, MatchOption, OnOk, vec_len, All};
-ghost use Rattle.conn_serving.specs.declared.serving.Stop.TheVariants as stops;
+ghost use Rattle.conn_engine.specs.declared.serving.Stop.TheVariants as stops;
 ghost use Rattle.conn_workers.specs.Faults.{Brings, first_stop};
 ghost use Rattle.conn_workers.specs.Reports.{IsRun};
 
@@ -11,8 +11,7 @@ use crate::line::{Origin, Start};
 use crate::report::{RunFault, RunReport};
 use crate::work::work;
 use address_table::Rules;
-use conn_engine::Gate;
-use conn_serving::Stop;
+use conn_engine::{Gate, Stop};
 use core_exchange::Exchange;
 use std::alloc::{AllocError, Global};
 use std::marker::Brand;

@@ -2,13 +2,12 @@
 
 ghost use Rattle.std.specs.Prelude.{◌≡◌, ◌<◌, ◌+◌, ◌∷◌, Some, length, drop, slice_get, IfOk, IfSome, OnOk, vec_len, All};
 ghost use Rattle.std.specs.VecDeque.{deque_len};
-ghost use Rattle.conn_serving.specs.declared.serving.Status.TheVariants.{Open, Ended};
+ghost use Rattle.conn_engine.specs.declared.serving.Status.TheVariants.{Open, Ended};
 
 use crate::alarm::Alarm;
 use crate::done::Done;
 use crate::line::{Line, Origin, Start};
-use conn_engine::Gate;
-use conn_serving::{Stop, Turn};
+use conn_engine::{Gate, Stop, Turn};
 use core_exchange::{Exchange, ExchangePort};
 use std::alloc::Global;
 use std::collections::VecDeque;

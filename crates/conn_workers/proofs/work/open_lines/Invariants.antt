@@ -1,7 +1,7 @@
 use Rattle.std.proofs.Common.{◌≡◌, ◌+◌, vec_len, All}
 use Rattle.std.specs.VecDeque.{deque_len}
 use Rattle.std.specs.Vec.Iter.{into_iter_len}
-use Rattle.conn_serving.specs.declared.serving.Status.TheVariants.{Open}
+use Rattle.conn_engine.specs.declared.serving.Status.TheVariants.{Open}
 use Rattle.conn_workers.proofs.work.open_lines.Given as goal
 
 abbrev pub invariant-loop-start : goal.invariant-loop-start

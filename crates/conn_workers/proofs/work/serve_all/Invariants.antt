@@ -1,6 +1,6 @@
 use Rattle.std.proofs.Common.{◌≡◌, ◌+◌, vec_len, All}
 use Rattle.std.specs.VecDeque.{deque_len}
-use Rattle.conn_serving.specs.declared.serving.Status.TheVariants.{Open}
+use Rattle.conn_engine.specs.declared.serving.Status.TheVariants.{Open}
 use Rattle.conn_workers.proofs.work.serve_all.Given as goal
 
 abbrev pub invariant-loop : goal.invariant-loop

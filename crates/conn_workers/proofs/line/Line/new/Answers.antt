@@ -1,5 +1,5 @@
 use Rattle.std.proofs.Common.{ap}
-use Rattle.conn_serving.proofs.ServedOn.{open_new}
+use Rattle.conn_engine.proofs.ServedOn.{open_new}
 use Rattle.conn_workers.proofs.line.Line.new.Goals as goal
 
 pub invariant_of-result : goal.invariant_of-result

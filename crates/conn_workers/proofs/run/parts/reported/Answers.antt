@@ -1,5 +1,5 @@
 use Rattle.std.proofs.Common.{refl, sym, subst}
-use Rattle.conn_serving.specs.Scripts.{octets_taken}
+use Rattle.conn_engine.specs.Scripts.{octets_taken}
 use Rattle.conn_workers.specs.Lines.{IsDone}
 use Rattle.conn_workers.proofs.Gathered.{reported as is_reported}
 use Rattle.conn_workers.proofs.run.parts.reported.Goals as goal

@@ -1,5 +1,5 @@
 use Rattle.std.proofs.Common.{◌≡◌, vec_len}
-use Rattle.socket_gates.proofs.opening.slots_of.Given as goal
+use Rattle.conn_workers.proofs.opening.slots_of.Given as goal
 
 -- a slot for each connection so far
 abbrev pub invariant-loop-number : goal.invariant-loop-number

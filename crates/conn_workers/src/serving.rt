@@ -5,11 +5,10 @@ ghost use Rattle.std.specs.IoError.{error_kind, raw_os_error};
 ghost use Rattle.std.specs.declared.io.ErrorKind.TheVariants.{OutOfMemory};
 ghost use Rattle.conn_workers.specs.declared.report.RunFault.TheVariants.{Memory};
 ghost use Rattle.conn_workers.specs.Faults.{Brings};
-ghost use Rattle.socket_gates.specs.Served.{IsServedRun};
+ghost use Rattle.conn_workers.specs.ServedRuns.{IsServedRun};
 
-use crate::{ConnectionSlot, open_slots};
+use crate::{ConnectionSlot, RunFault, RunReport, open_slots, run_workers};
 use address_table::Rules;
-use conn_workers::{RunFault, RunReport, run_workers};
 use std::alloc::Global;
 use std::io;
 use std::io::ErrorKind;

@@ -6,7 +6,7 @@ use Rattle.capture_form.specs.Text.{Trace}
 use Rattle.conn_workers.specs.Seats.{owned_below}
 use Rattle.conn_workers.specs.declared.report.ConnReport.{ConnReport}
 use Rattle.conn_workers.specs.Reports.{AreReported, IsRun}
-use Rattle.socket_gates.specs.Served.{AreListed, IsServedRun}
+use Rattle.conn_workers.specs.ServedRuns.{AreListed, IsServedRun}
 
 module _ {G : Type 0} (gates : List G) (Follows : G → G → Type 0) (Delivered Took : G → List ℕ → Type 0) (ended : G → Bool) where
   are_listed : (records : List Record) (k : ℕ) (reports : List (ConnReport G)) → AreReported gates Follows Delivered Took ended records k reports

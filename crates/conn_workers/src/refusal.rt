@@ -3,7 +3,7 @@
 ghost use Rattle.std.specs.Prelude.{◌≡◌, ◌↔◌};
 ghost use Rattle.std.specs.IoError.{error_kind};
 ghost use Rattle.std.specs.declared.io.ErrorKind.TheVariants.{WouldBlock};
-ghost use Rattle.socket_gates.specs.declared.refusal.Refusal.TheVariants.{NoneWaits};
+ghost use Rattle.conn_workers.specs.declared.refusal.Refusal.TheVariants.{NoneWaits};
 
 use std::io;
 use std::io::ErrorKind;

@@ -1,5 +1,5 @@
 use Rattle.std.proofs.Common.{◌≡◌, vec_len}
-use Rattle.socket_gates.proofs.opening.polls_at.Given as goal
+use Rattle.conn_workers.proofs.opening.polls_at.Given as goal
 
 -- a poll for each worker so far
 abbrev pub invariant-loop-worker : goal.invariant-loop-worker

@@ -1,7 +1,7 @@
 //! One socket of a poll.
 
 ghost use Rattle.std.specs.Prelude.{length};
-ghost use Rattle.socket_gates.specs.Moved.{IsWithin};
+ghost use Rattle.conn_workers.specs.Moved.{IsWithin};
 
 use crate::signs::Signs;
 use mio::net::TcpStream;
