@@ -5,8 +5,8 @@ use Rattle.capture_form.specs.declared.records.Record.{Record}
 use Rattle.capture_form.specs.Text.{record_text, records_text}
 use Rattle.capture_journal.specs.Journals.{Journaled, noted}
 use Rattle.route_items.specs.Inputs.{inputs}
-use Rattle.daemon_core.specs.Recordings.{Recording}
-use Rattle.daemon_core.specs.Stepping.{HasStepped}
+use Rattle.daemon_server.specs.Recordings.{Recording}
+use Rattle.daemon_server.specs.Stepping.{HasStepped}
 
 abbrev with_both : Journaled → List Record → List ℕ → Journaled
 with_both journal records waiting = record journal { records = records; waiting = waiting }

@@ -5,7 +5,7 @@ use Rattle.capture_form.specs.declared.records.Record.{Record}
 use Rattle.capture_form.specs.Text.{IsRecord}
 use Rattle.capture_journal.specs.Journals.{noted}
 use Rattle.route_items.specs.Inputs.{inputs, is_output}
-use Rattle.daemon_core.specs.Recordings.{Recording}
+use Rattle.daemon_server.specs.Recordings.{Recording}
 
 -- the record tells an item, which may be taken
 pub record IsInput (entry : Record) : Type 0 where

@@ -7,8 +7,8 @@ use Rattle.capture_form.specs.declared.records.What.TheVariants as happened
 use Rattle.capture_form.specs.declared.rules.Form.TheVariants as forms
 use Rattle.capture_form.specs.Text.{IsRecord}
 use Rattle.capture_journal.specs.Journals.{Journaled, begun, noted}
-use Rattle.daemon_core.specs.Recordings.{Recording}
-use Rattle.daemon_core.specs.Stepping.{HasStepped, IsInput}
+use Rattle.daemon_server.specs.Recordings.{Recording}
+use Rattle.daemon_server.specs.Stepping.{HasStepped, IsInput}
 
 abbrev opened : Record
 opened = record { connection = 3; what = happened.Opened; note = notes.None }

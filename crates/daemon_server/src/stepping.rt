@@ -3,13 +3,13 @@
 ghost use Rattle.std.specs.Prelude.{◌≡◌, ◌∷◌, [], true, IfOk, MatchOption, OnErr, All};
 ghost use Rattle.route_items.specs.Inputs.{is_output};
 ghost use Rattle.route_items.specs.Items.{connection_of, what_of};
-ghost use Rattle.daemon_core.specs.Stepping.{HasStepped, IsInput};
+ghost use Rattle.daemon_server.specs.Stepping.{HasStepped, IsInput};
 
 use crate::recording::RecordingCore;
 use capture_form::{Record, What};
 use pairing_cert::Note;
+use route_core::Dues;
 use route_items::{Item, StepFault};
-use route_kernel::Dues;
 use std::alloc::Global;
 use std::io::Write;
 

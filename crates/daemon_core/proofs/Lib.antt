@@ -1,4 +1,0 @@
-mod Examples
-mod Kept
-mod StepExamples
-mod Steps
