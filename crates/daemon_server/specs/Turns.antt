@@ -3,10 +3,10 @@ use Rattle.std.specs.Prelude.{◌≡◌, ℕ, Bool, List, ◌++◌, All}
 use Rattle.capture_form.specs.declared.records.Record.{Record}
 use Rattle.capture_form.specs.declared.records.What.{What}
 use Rattle.conn_engine.specs.Pausing.{Paused, resumed}
-use Rattle.conn_serving.specs.declared.script.Script.{Script}
-use Rattle.conn_serving.specs.declared.serving.Status.{Status}
-use Rattle.conn_serving.specs.Served.{LineHolds}
-use Rattle.daemon_desk.specs.Desks.{IsEntry, told_by}
+use Rattle.conn_engine.specs.declared.script.Script.{Script}
+use Rattle.conn_engine.specs.declared.serving.Status.{Status}
+use Rattle.conn_engine.specs.Served.{LineHolds}
+use Rattle.daemon_server.specs.Desks.{IsEntry, told_by}
 
 module _ {G : Type 0} (Delivered Took : G → List ℕ → Type 0) (ended : G → Bool) where
   -- a line of which these items were taken, these frames were given and these were due has had a turn: what holds of one so far on

@@ -2,15 +2,14 @@
 
 ghost use Rattle.std.specs.Prelude.{◌≡◌, ◌<◌, [], length, IfOk};
 ghost use Rattle.conn_engine.specs.Pausing.{resumed};
-ghost use Rattle.conn_serving.specs.Served.{IsOpen, status_after};
-ghost use Rattle.daemon_desk.specs.Desks.{is_empty};
-ghost use Rattle.daemon_desk.specs.Lines.{HasServed};
+ghost use Rattle.conn_engine.specs.Served.{IsOpen, status_after};
+ghost use Rattle.daemon_server.specs.Desks.{is_empty};
+ghost use Rattle.daemon_server.specs.Turns.{HasServed};
 
 use crate::before::Before;
 use crate::desk::Desk;
 use capture_form::{Frame, Record};
-use conn_engine::{Gate, PausedEngine};
-use conn_serving::{Script, Stop, Turn, serve};
+use conn_engine::{Gate, PausedEngine, Script, Stop, Turn, serve};
 use std::alloc::Global;
 use std::collections::VecDeque;
 

@@ -4,11 +4,11 @@ use Rattle.capture_form.specs.declared.records.Record.{Record}
 use Rattle.capture_form.specs.declared.records.What.{What}
 use Rattle.conn_engine.specs.Pausing.{Paused, paused, resumed}
 use Rattle.conn_engine.specs.Serving.{Connection}
-use Rattle.conn_serving.specs.declared.script.Script.{Script}
-use Rattle.conn_serving.specs.declared.serving.Status.{Status}
-use Rattle.conn_serving.specs.Served.{IsOpen, LineHolds}
-use Rattle.daemon_desk.specs.Desks.{IsEntry, Laid, is_empty, told_by}
-use Rattle.daemon_desk.specs.Lines.{HasServed}
+use Rattle.conn_engine.specs.declared.script.Script.{Script}
+use Rattle.conn_engine.specs.declared.serving.Status.{Status}
+use Rattle.conn_engine.specs.Served.{IsOpen, LineHolds}
+use Rattle.daemon_server.specs.Desks.{IsEntry, Laid, is_empty, told_by}
+use Rattle.daemon_server.specs.Turns.{HasServed}
 
 module _ {G : Type 0} (Delivered Took : G → List ℕ → Type 0) where
   -- an engine that goes on with a desk is open as it was

@@ -1,8 +1,8 @@
 use Rattle.std.proofs.Common.{ap, sym, ◌∙◌}
-use Rattle.daemon_desk.specs.Desks.{Laid}
-use Rattle.daemon_desk.proofs.Entries.{none-more, one-more}
-use Rattle.daemon_desk.proofs.desk.DeskPort.submit.Goals as goal
-use Rattle.daemon_desk.proofs.desk.DeskPort.submit.Goals.{in-Ok, in-Err}
+use Rattle.daemon_server.specs.Desks.{Laid}
+use Rattle.daemon_server.proofs.Entries.{none-more, one-more}
+use Rattle.daemon_server.proofs.desk.DeskPort.submit.Goals as goal
+use Rattle.daemon_server.proofs.desk.DeskPort.submit.Goals.{in-Ok, in-Err}
 
 pub invariant_of-self : goal.invariant_of-self
 invariant_of-self g c =

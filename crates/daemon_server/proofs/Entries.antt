@@ -7,7 +7,7 @@ use Rattle.route_items.specs.declared.item.Item.{Item}
 use Rattle.route_items.specs.declared.item.Item.TheVariants.{Opened, In, Broken, Lost}
 use Rattle.route_items.specs.Inputs.{is_output}
 use Rattle.route_items.specs.Items.{connection_of, record_of, what_of}
-use Rattle.daemon_desk.specs.Desks.{IsEntry, IsLaid}
+use Rattle.daemon_server.specs.Desks.{IsEntry, IsLaid}
 
 -- no item is a frame that was written
 no-output : (item : Item) → is_output (what_of item) ≡ false

@@ -4,10 +4,10 @@ use Rattle.std.proofs.lemmas.List.Elements.{All-cons}
 use Rattle.capture_form.specs.declared.records.Record.{Record}
 use Rattle.capture_form.specs.declared.records.What.TheVariants as happened
 use Rattle.conn_engine.specs.Pausing.{Paused}
-use Rattle.conn_serving.specs.declared.script.Script.{Script}
-use Rattle.conn_serving.specs.declared.serving.Status.TheVariants.{Failed}
-use Rattle.daemon_desk.specs.Desks.{IsEntry}
-use Rattle.daemon_desk.specs.Lines.{HasServed}
+use Rattle.conn_engine.specs.declared.script.Script.{Script}
+use Rattle.conn_engine.specs.declared.serving.Status.TheVariants.{Failed}
+use Rattle.daemon_server.specs.Desks.{IsEntry}
+use Rattle.daemon_server.specs.Turns.{HasServed}
 
 -- of a connection of which one item was taken, which was given one frame, and to which two are due; of one that stopped nothing is
 -- known of its octets

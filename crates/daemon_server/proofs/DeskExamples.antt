@@ -6,7 +6,7 @@ use Rattle.pairing_cert.specs.declared.note.Note.TheVariants as notes
 use Rattle.capture_form.specs.declared.records.Record.{Record}
 use Rattle.capture_form.specs.declared.records.What.TheVariants as happened
 use Rattle.capture_form.specs.Text.{IsRecord}
-use Rattle.daemon_desk.specs.Desks.{IsEntry, IsLaid, laid}
+use Rattle.daemon_server.specs.Desks.{IsEntry, IsLaid, laid}
 
 abbrev opened : Record
 opened = record { connection = 3; what = happened.Opened; note = notes.None }

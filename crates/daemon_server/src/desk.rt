@@ -6,7 +6,7 @@ ghost use Rattle.capture_form.specs.declared.records.Record.{Record as Entry};
 ghost use Rattle.capture_form.specs.Text.{IsRecord};
 ghost use Rattle.route_items.specs.Items.{connection_of, record_of, what_of, IsShort};
 ghost use Rattle.conn_engine.specs.Giving.{GivesNext};
-ghost use Rattle.daemon_desk.specs.Desks.{IsEntry, is_empty, laid};
+ghost use Rattle.daemon_server.specs.Desks.{IsEntry, is_empty, laid};
 
 use crate::before::Before;
 use capture_form::{Frame, Record};
@@ -33,7 +33,7 @@ pub struct Desk<J: Before> {
 }
 
 impl<J: Before> Model for Desk<J> {
-    ghost use Rattle.daemon_desk.specs.Desks.{Laid, IsLaid, laid};
+    ghost use Rattle.daemon_server.specs.Desks.{Laid, IsLaid, laid};
 
     ghost Value = { Laid };
 

@@ -1,4 +1,0 @@
-mod Entries
-mod Examples
-mod TurnExamples
-mod Turns
