@@ -1,4 +1,0 @@
-mod Records
-mod Lines
-mod Tables
-mod Examples

@@ -1,7 +1,0 @@
-use Rattle.std.proofs.Common.{List, ℕ}
-use Rattle.capture_form.specs.declared.records.Record.{Record}
-use Rattle.daemon_table.specs.Lines.{Serves}
-use Rattle.daemon_table.proofs.table.Table.sign_all.Given as goal
-
-abbrev pub invariant-loop-number : goal.invariant-loop-number
-invariant-loop-number g l = (records given : List Record) (waiting : List ℕ) → Serves g.G.Gate.delivered g.G.Gate.took g.G.Gate.has_ended records given waiting l.fn.self → Serves g.G.Gate.delivered g.G.Gate.took g.G.Gate.has_ended records given waiting l.self
