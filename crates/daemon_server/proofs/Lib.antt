@@ -1,1 +1,13 @@
-mod Examples
+mod Entries
+mod DeskExamples
+mod TurnExamples
+mod Turns
+mod RecordingExamples
+mod Kept
+mod StepExamples
+mod Steps
+mod Records
+mod Lines
+mod Tables
+mod TableExamples
+mod ServerExamples

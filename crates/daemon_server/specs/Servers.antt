@@ -1,9 +1,9 @@
 -- A router that one owner serves (own rules).
 use Rattle.std.specs.Prelude.{◌≡◌, ℕ, Bool, List, []}
 use Rattle.capture_journal.specs.Journals.{IsPassedOn}
-use Rattle.daemon_core.specs.Recordings.{Recording}
-use Rattle.daemon_table.specs.declared.table.Table.{Table}
-use Rattle.daemon_table.specs.Lines.{Serves}
+use Rattle.daemon_server.specs.Recordings.{Recording}
+use Rattle.daemon_server.specs.declared.table.Table.{Table}
+use Rattle.daemon_server.specs.Lines.{Serves}
 
 -- a server as it is seen: its core, with its capture; its connections; and whether it has stopped
 pub record Serving (G : Type 0) : Type 0 where

@@ -1,7 +1,7 @@
 //! Why a server stops.
 
 use capture_form::WriteFault;
-use conn_serving::Stop;
+use conn_engine::Stop;
 use route_items::StepFault;
 
 /// Why a server stops. Nothing is done from then on that its capture does not tell.

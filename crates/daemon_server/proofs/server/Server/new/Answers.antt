@@ -1,6 +1,6 @@
 use Rattle.std.proofs.Common.{List, [], sym, subst}
 use Rattle.capture_form.specs.declared.records.Record.{Record}
-use Rattle.daemon_table.specs.Lines.{Serves}
+use Rattle.daemon_server.specs.Lines.{Serves}
 use Rattle.daemon_server.proofs.server.Server.new.Goals as goal
 
 pub invariant_of-result : goal.invariant_of-result

@@ -2,10 +2,10 @@
 use Rattle.std.proofs.Common.{◌≡◌, ℕ, Bool, true, false, List, [], ◌∷◌, Some, nat_eq, Contains, ◌⊎◌, inl, inr, sym, ◌∙◌, arith}
 use Rattle.indexmap.specs.IndexMap.{get}
 use Rattle.capture_form.specs.declared.records.Record.{Record}
-use Rattle.daemon_core.specs.Recordings.{Recording}
-use Rattle.daemon_table.specs.declared.line.Line.{Line}
-use Rattle.daemon_table.specs.declared.table.Table.{Table}
-use Rattle.daemon_table.specs.Lines.{Serves}
+use Rattle.daemon_server.specs.Recordings.{Recording}
+use Rattle.daemon_server.specs.declared.line.Line.{Line}
+use Rattle.daemon_server.specs.declared.table.Table.{Table}
+use Rattle.daemon_server.specs.Lines.{Serves}
 use Rattle.daemon_server.specs.Servers.{IsServing}
 
 module _ {G : Type 0} (Delivered Took : G → List ℕ → Type 0) (ended : G → Bool) (core : Recording) (table : Table G) where
