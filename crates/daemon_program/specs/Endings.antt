@@ -1,10 +1,10 @@
 -- How a run ended whose router stopped.
 use Rattle.std.specs.Prelude.{ℕ}
-use Rattle.conn_serving.specs.declared.serving.Stop.TheVariants as stops
+use Rattle.conn_engine.specs.declared.serving.Stop.TheVariants as stops
 use Rattle.daemon_server.specs.declared.halt.Halt.{Halt}
 use Rattle.daemon_server.specs.declared.halt.Halt.TheVariants as halts
-use Rattle.daemon_sockets.specs.declared.fault.Fault.{Fault}
-use Rattle.daemon_sockets.specs.declared.fault.Fault.TheVariants as faults
+use Rattle.daemon_program.specs.declared.fault.Fault.{Fault}
+use Rattle.daemon_program.specs.declared.fault.Fault.TheVariants as faults
 use Rattle.router_words.specs.declared.run_end.RunEnd.{RunEnd}
 use Rattle.router_words.specs.declared.run_end.RunEnd.TheVariants.{CoreFailed, DeviceFault, NoMemory, NotWritten}
 

@@ -5,9 +5,9 @@ ghost use Rattle.program_ends.specs.Growth.{IsRefusedGrowth};
 ghost use Rattle.router_words.specs.declared.run_end.RunEnd.TheVariants.{NoMemory};
 ghost use Rattle.daemon_program.specs.Endings.{outcome_after, outcome_of_halt};
 
-use conn_serving::Stop;
+use crate::Fault;
+use conn_engine::Stop;
 use daemon_server::Halt;
-use daemon_sockets::Fault;
 use program_ends::is_refused_growth;
 use router_words::RunEnd;
 use std::io;

@@ -8,14 +8,33 @@
 //!
 //! In reading order: `words` is what the words of the command line say; `order` is what standard input says; `capture_file` is the
 //! file; `ending` is how a run ended; `serving` is the loop; `run` is a run over any words, input and writers.
+//!
+//! Below them stands a router over sockets that stays up: one thread has its listener, its sockets in one poll, and its server
+//! (`SocketServer`). A turn waits for a sign of any socket, takes the connections that have come, and serves a round. A read or a
+//! write asks the system only where the poll has told that it may do something. Ten times in a second all connections have a turn,
+//! so that clients that ask for it hear something. A client that has said less than 16 octets within ten seconds is taken to have
+//! ended, and a socket that takes nothing for a minute, while octets wait for it, to have failed. At the router's end each gate
+//! says that its client has ended, so that the core is told of all of them.
+//!
+//! `notice` is what the owner tells its gates; `gate` is a socket; `sockets` is their poll with the listener; `fault` is why a
+//! router stops; `socket_server` is the router.
 #![tactic(auto)]
 
 mod capture_file;
 mod ending;
+mod fault;
+mod gate;
+mod notice;
 mod order;
 mod run;
 mod serving;
+mod socket_server;
+mod sockets;
 mod words;
 
+pub use fault::Fault;
+pub use gate::SocketGate;
 pub use run::run_words;
+pub use socket_server::{Limits, SocketServer, Tally};
+pub use sockets::PollSigns;
 pub use words::Words;

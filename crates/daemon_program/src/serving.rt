@@ -3,8 +3,8 @@
 ghost use Rattle.std.specs.Prelude.{◌<◌, length};
 
 use crate::order::Order;
+use crate::{Fault, SocketServer, Tally};
 use daemon_server::Work;
-use daemon_sockets::{Fault, SocketServer, Tally};
 use std::io::{Read, Write};
 use std::os::fd::RawFd;
 use std::sync::Wait;

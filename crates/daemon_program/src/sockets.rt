@@ -2,13 +2,13 @@
 
 use crate::gate::SocketGate;
 use crate::notice::Notice;
+use conn_workers::{Connection, Refusal, Signs, refusal_of};
 use daemon_server::{Dues, Halt, Server};
 use mio::event::Event;
 use mio::net::{TcpListener, TcpStream};
 use mio::unix::SourceFd;
 use mio::{Events, Interest, Poll, Token};
 use slab::Slab;
-use socket_gates::{Connection, Refusal, Signs, refusal_of};
 use std::alloc::Global;
 use std::io;
 use std::io::Write;

@@ -1,7 +1,7 @@
 //! Why a router over sockets stops.
 
 ghost use Rattle.std.specs.Prelude.{◌≡◌};
-ghost use Rattle.daemon_sockets.specs.declared.fault.Fault.TheVariants as faults;
+ghost use Rattle.daemon_program.specs.declared.fault.Fault.TheVariants as faults;
 
 use daemon_server::Halt;
 use std::io;

@@ -4,7 +4,7 @@ ghost use Rattle.std.specs.Prelude.{◌≡◌};
 
 use crate::notice::Notice;
 use conn_engine::{Delivered, Gate, Ready, Taken};
-use socket_gates::{Connection, Moved, count_failure};
+use conn_workers::{Connection, Moved, count_failure};
 use std::alloc::Global;
 use std::sync::Arc;
 
