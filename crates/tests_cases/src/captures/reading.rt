@@ -1,7 +1,7 @@
 //! Texts of captures that are read whole, or record by record from a reader.
 
-use crate::fakes::Pieces;
-use crate::runs::Runs;
+use crate::captures::fakes::Pieces;
+use crate::captures::runs::Runs;
 use capture_form::{
     Form, FormFault, Reader, Record, Rule, RuleSet, What, read_capture, read_whole_records,
 };

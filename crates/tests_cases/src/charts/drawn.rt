@@ -1,4 +1,4 @@
-//! A capture, drawn.
+//! A capture, drawn as a chart.
 
 use capture_chart::{Chart, Marks, Outcomes};
 use capture_form::{Record, read_capture};

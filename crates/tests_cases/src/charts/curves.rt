@@ -12,7 +12,7 @@ const MOST_RECORDS: u64 = 9223372036854775807;
 
 /// Draws the links that the lines of `curves.cases` pick.
 pub fn tell_curves(rt: &HostRuntime) -> io::Result<()> {
-    let cases = fs::read_to_string(rt, "curves.cases")?;
+    let cases = fs::read_to_string(rt, "charts/curves.cases")?;
     for line in cases.lines() {
         tell_line(rt, line)?;
     }
@@ -46,7 +46,7 @@ fn picked<'a>(connection: &str, name: &'a str) -> Pick<'a> {
 
 /// Tells where the link stands that is picked of a capture, and draws what stood behind each record of it.
 fn tell_curve(rt: &HostRuntime, title: &str, capture: &str, pick: Pick<'_>) -> io::Result<()> {
-    let octets = fs::read(rt, format!(in rt.alloc(); "{capture}.cap")?)?;
+    let octets = fs::read(rt, format!(in rt.alloc(); "charts/{capture}.cap")?)?;
     tell_octets(rt, title, octets.as_slice(), pick)
 }
 

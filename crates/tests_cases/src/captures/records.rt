@@ -1,6 +1,6 @@
 //! Records that are looked at: their lines, what they come to, and the ids of deliveries.
 
-use crate::octets::octets_of;
+use crate::captures::octets::octets_of;
 use capture_view::{Happened, Ids, RecordView, Scope, Sender, said_by};
 use capture_words::{Page, Summary};
 use kit_cases::{Answer, Subject, behind, count, done, number, parted, said, small, told, word};

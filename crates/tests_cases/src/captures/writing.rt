@@ -1,7 +1,7 @@
 //! Captures that are written, to writers with room for them or less.
 
-use crate::fakes::Room;
-use crate::runs::Runs;
+use crate::captures::fakes::Room;
+use crate::captures::runs::Runs;
 use capture_form::{Capture, Reader, WriteFault, append, append_head, read_capture, write_capture};
 use capture_journal::Journal;
 use capture_packets::{PacketFault, PacketWriter};

@@ -1,6 +1,6 @@
 //! The windows of a session.
 
-use crate::words::{Event, events, optional};
+use crate::counting::words::{Event, events, optional};
 use flow_counts::WindowEvent;
 use kit_cases::{Answer, Subject, behind, done, parted, small, told, word};
 use session_window::{Violation, Window, window_after};

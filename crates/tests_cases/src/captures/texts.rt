@@ -1,10 +1,12 @@
 //! One text of a capture, which is read and written.
 
-use crate::fakes::Pieces;
-use crate::octets::octets_of;
-use crate::packing::{faults_in_words, pack_read, packets_shown};
-use crate::reading::{read_cuts, read_failing, read_in_words, read_pieces, read_within, shown};
-use crate::writing::{Way, record_growing, written_again};
+use crate::captures::fakes::Pieces;
+use crate::captures::octets::octets_of;
+use crate::captures::packing::{faults_in_words, pack_read, packets_shown};
+use crate::captures::reading::{
+    read_cuts, read_failing, read_in_words, read_pieces, read_within, shown,
+};
+use crate::captures::writing::{Way, record_growing, written_again};
 use kit_cases::{Answer, Subject, count, done, parted, said, small, word};
 use std::alloc::Global;
 

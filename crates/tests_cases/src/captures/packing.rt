@@ -1,7 +1,7 @@
 //! Captures that are written as packets.
 
-use crate::fakes::{Pieces, Room};
-use crate::writing::packed;
+use crate::captures::fakes::{Pieces, Room};
+use crate::captures::writing::packed;
 use capture_form::{Capture, WriteFault, read_capture, read_whole_records};
 use capture_packets::{PacketFault, pack_capture};
 use kit_cases::{Answer, told};

@@ -5,7 +5,7 @@ use std::{fs, io};
 
 /// Draws the levels that the lines of `levels.cases` tell.
 pub fn tell_levels(rt: &HostRuntime) -> io::Result<()> {
-    let cases = fs::read_to_string(rt, "levels.cases")?;
+    let cases = fs::read_to_string(rt, "charts/levels.cases")?;
     tell_lines(rt, cases.as_str(), &mut Vec::new(rt.alloc()))
 }
 

@@ -1,6 +1,6 @@
 //! The credit of a consumer's link and of a producer's.
 
-use crate::words::{Event, events, optional};
+use crate::counting::words::{Event, events, optional};
 use kit_cases::{Answer, Subject, behind, done, parted, small, told, word};
 use link_credit::{
     ConsumerEvent, GivenCredit, Over, ProducerEvent, SenderCredit, given_credit_after,

@@ -1,7 +1,7 @@
 //! Numbers, alone and under keys of a number, of a pair of numbers and of octets; and values under numbers, each with an entry
 //! of its own or neighbours in one.
 
-use crate::words::parts;
+use crate::counting::words::parts;
 use kit_cases::{Answer, Subject, done, number, parted, small, told, word};
 use number_groups::{Ascending, Groups, IdOn, NumberKey, NumberSet, OctetGroups};
 use number_map::NumberMap;

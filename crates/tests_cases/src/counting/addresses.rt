@@ -1,6 +1,6 @@
 //! The rules of a router, and the links of consumers at addresses.
 
-use crate::words::{joined, parts};
+use crate::counting::words::{joined, parts};
 use address_table::{AddressEvent, Rules, RulesFault, Table, table_after};
 use capture_form::{Distribution, Rule, read_capture};
 use kit_cases::{Answer, Subject, behind, done, number, parted, told, word};

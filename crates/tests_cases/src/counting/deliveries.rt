@@ -3,7 +3,7 @@
 //! A payload is the text of its word, and `-` an empty one; `-` is also a transfer without a delivery-id. `cuts` tells how
 //! many octets each cut has of the delivery that was completed last.
 
-use crate::words::{Event, events, optional, parts};
+use crate::counting::words::{Event, events, optional, parts};
 use bytes::Bytes;
 use flow_counts::SentEvent;
 use kit_cases::{Answer, Subject, done, number, parted, small, told, word};
