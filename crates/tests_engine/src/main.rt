@@ -1,41 +1,38 @@
-//! Does what each line of its input says to an engine over a port that plays a router's part, and compares what comes of it with
-//! what the line tells. It prints each line of which something else came, and how many lines there are. `README.md` says how a
-//! line is written. The modules, in reading order:
+//! Does to engines what each line of its input says, and feeds them random streams, and compares what comes of it with what the line
+//! or a plain reading of the stream tells.
 //!
-//! - `names`: octets by their names
-//! - `router`: a router's part
-//! - `bench`: an engine, and what is done to it
+//! Without words it does both: the lines, and then 1000 streams. Its words say how many streams there are and which is the
+//! first one, and ask for these alone. `README.md` says how a line is written. In reading order:
+//!
+//! - `lines`: lines of data, over a port that plays a router's part
+//! - `fuzzed`: streams of a client, in pieces
 #![tactic(auto)]
 
-mod bench;
-mod names;
-mod router;
+mod fuzzed;
+mod lines;
 
-use bench::Bench;
-use std::io;
+use std::{env, io};
+
+/// How many streams are fed, if no word says so.
+const STREAMS: u64 = 1000;
 
 fn main(rt: HostRuntime) -> io::Result<()> {
-    tell_lines(&rt, &mut Bench::new(rt.alloc()))
+    let words: Vec<String> = env::args(&rt)?.skip(1).collect(rt.alloc())?;
+    done_by(&rt, words.as_slice())
 }
 
-/// Tells of which lines something else came than they say.
+/// Does what these words ask for.
 ///
-/// It borrows the bench: owned here, its drop would be proved on each way out of the loop.
-fn tell_lines(rt: &HostRuntime, bench: &mut Bench) -> io::Result<()> {
-    let alloc = rt.alloc();
-    let (mut told, mut others) = (0u64, 0u64);
-    for line in rt.lines(alloc) {
-        let line = line?;
-        let Some((said, wanted)) = line.split_once(" = ") else {
-            bench.prepare(line.as_str())?;
-            continue;
-        };
-        told = told.saturating_add(1);
-        let came = bench.answer(said)?;
-        if came.as_str() != wanted {
-            others = others.saturating_add(1);
-            println!(rt; "{said} = {wanted}: but it is {came}")?;
-        }
+/// It borrows the words: owned here, their drop would be proved on each way out.
+fn done_by(rt: &HostRuntime, words: &[String]) -> io::Result<()> {
+    if words.is_empty() {
+        lines::play_input(rt)?;
     }
-    println!(rt; "{told} lines, of which {others} tell something else")
+    let count = number_of(words, 0).unwrap_or(STREAMS);
+    fuzzed::feed_streams(rt, number_of(words, 1).unwrap_or(0), count)
+}
+
+/// The word in this place, if it is a number.
+fn number_of(words: &[String], place: usize) -> Option<u64> {
+    words.get(place)?.as_str().parse::<u64>().ok()
 }

@@ -1,7 +1,7 @@
 //! Runs of a kind.
 
-use crate::ROOM;
-use crate::run::{Came, serve_two};
+use crate::owner::ROOM;
+use crate::owner::run::{Came, serve_two};
 use audit_core::Verdict;
 use kit_gates::Pair;
 use std::alloc::{AllocError, Global};

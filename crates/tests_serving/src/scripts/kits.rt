@@ -1,6 +1,6 @@
 //! Choices by chance, the frames of clients, and their streams read at once.
 
-use crate::step::{ScriptLine, octets_of, tell};
+use crate::scripts::step::{ScriptLine, octets_of, tell};
 use kit_clients::{Chance, Fields, Reading, framed, read};
 use std::alloc::{AllocError, AllocGlobal, Global};
 use std::io;

@@ -2,7 +2,7 @@
 
 ghost use Rattle.std.specs.Prelude.{◌<◌};
 
-use crate::router::Router;
+use crate::fuzzed::router::Router;
 use capture_form::What;
 use conn_engine::{EMPTY_FRAME, Engine, EngineFault};
 use kit_clients::{Chance, Reading};

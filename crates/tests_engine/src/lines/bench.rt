@@ -1,7 +1,7 @@
 //! An engine, and what is done to it.
 
-use crate::names::{Names, put_word};
-use crate::router::{Cue, Scripted};
+use crate::lines::names::{Names, put_word};
+use crate::lines::router::{Cue, Scripted};
 use capture_form::What;
 use conn_engine::{Engine, EngineFault, PortFault};
 use route_items::StepFault;

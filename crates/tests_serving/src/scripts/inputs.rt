@@ -1,6 +1,6 @@
 //! Which inputs may come, and where the frames that were written stand.
 
-use crate::step::ScriptLine;
+use crate::scripts::step::ScriptLine;
 use capture_form::{Frame, Record, What};
 use pairing_cert::Note;
 use route_items::{ConnectionStates, Item, WrittenFrames};

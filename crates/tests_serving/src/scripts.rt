@@ -9,7 +9,6 @@
 //! - `kits`: choices by chance, the frames of clients, and their streams read at once
 //! - `seats`: two ports of one exchange on one thread, and seats that are not what the capture has
 //! - `gates`: slots at a listener, and clients beside them
-#![tactic(auto)]
 
 mod gates;
 mod inputs;
@@ -19,15 +18,20 @@ mod step;
 
 use std::alloc::AllocGlobal;
 use std::io;
+use std::io::Read;
 use std::net::{Net, TcpStream};
 use std::sync::Wait;
 use std::thread::Threads;
 use std::time::Clock;
 use step::ScriptLine;
 
-fn main(rt: HostRuntime) -> io::Result<()> {
-    let text = io::read_to_string(rt.alloc(), rt.stdin())?;
-    play_all(&rt, text.as_str())
+/// Plays the scripts of the input.
+pub fn play_input<R, I: Read + Drop>(rt: &R, input: I) -> io::Result<()>
+where
+    R: Threads + Wait + Net<Stream = TcpStream> + Clock + Sync + Print + AllocGlobal,
+{
+    let text = io::read_to_string(rt.alloc(), input)?;
+    play_all(rt, text.as_str())
 }
 
 /// Plays the scripts of a text.

@@ -2,7 +2,7 @@
 
 ghost use Rattle.std.specs.Prelude.{◌≡◌, []};
 
-use crate::writer::Sheet;
+use crate::owner::writer::Sheet;
 use address_table::Rules;
 use audit_core::{Verdict, audit_bytes};
 use daemon_server::{Halt, Server, Work};

@@ -5,7 +5,6 @@
 //! - `writer`: a writer in memory that may fail
 //! - `run`: two clients that are served to their ends
 //! - `kinds`: runs of a kind, and how many of them came to what
-#![tactic(auto)]
 
 mod kinds;
 mod run;
@@ -13,29 +12,22 @@ mod writer;
 
 use kinds::Tally;
 use kit_gates::{
-    BEGINS_LATE, CONSUMER, IN_HASTE, MESSAGE, ONE_BY_ONE, OPENS_LATE, PATIENCE, Pace, Pair, Part,
-    QUIET, RELAY, RELAY_IN_TWO, RELAYED, RunRules, STRANGERS, exchanging, failing, part, two_of,
+    BEGINS_LATE, CONSUMER, IN_HASTE, MESSAGE, ONE_BY_ONE, OPENS_LATE, Pace, Pair, Part, QUIET,
+    RELAY, RELAY_IN_TWO, RELAYED, RunRules, STRANGERS, exchanging, failing, part, two_of,
     vanishing,
 };
 use run::serve_two;
 use std::alloc::Global;
 use std::io;
-use std::process::ExitCode;
-
-/// The status where memory was refused or a line not written.
-const SYSTEM_FAULT: u8 = 74;
 
 /// More octets than the text of any of these runs has.
-pub(crate) const ROOM: usize = usize::MAX;
+const ROOM: usize = usize::MAX;
 
-fn main(rt: HostRuntime) -> ExitCode {
-    ExitCode::from(match run_all(&rt, rt.alloc()) {
-        Ok(()) => 0,
-        Err(_) => SYSTEM_FAULT,
-    })
-}
+/// As many reads in a row that bring nothing as a client bears: more than the other takes to say all.
+const PATIENCE_OF_ONE: u64 = 10_000;
 
-fn run_all<R: Print>(rt: &R, alloc: Global) -> io::Result<()> {
+/// Runs each kind.
+pub fn run_all<R: Print>(rt: &R, alloc: Global) -> io::Result<()> {
     exchange(rt, alloc)?;
     relay(rt, alloc)?;
     take_turns(rt, alloc)?;
@@ -112,7 +104,7 @@ fn vanish<R: Print>(rt: &R, alloc: Global) -> io::Result<()> {
 /// The exchange octet by octet, where each read that brings one, and then each write, of one of both fails in turn.
 fn fail<R: Print>(rt: &R, alloc: Global) -> io::Result<()> {
     let pace = Pace {
-        patience: PATIENCE,
+        patience: PATIENCE_OF_ONE,
         ..ONE_BY_ONE
     };
     let tally = Tally::of(alloc, &failing(alloc, pace)?)?;

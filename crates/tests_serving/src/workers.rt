@@ -5,40 +5,31 @@
 //!
 //! - `shared`: two threads, each with an engine over a port of one exchange
 //! - `served`: runs of workers
-#![tactic(auto)]
+//! - `tally`: how many runs came to what
 
 mod served;
 mod shared;
+mod tally;
 
 ghost use Rattle.std.specs.Prelude.{◌<◌, ◌≤◌};
 
 use address_table::Rules;
-use audit_core::Verdict;
 use capture_form::Capture;
 use kit_gates::{
     BEGINS_LATE, CONSUMER, IN_HASTE, MESSAGE, ONE_BY_ONE, OPENS_LATE, PATIENCE, Pace, Pair, Part,
     QUIET, RELAY, RELAY_IN_TWO, RELAYED, RunRules, STRANGERS, Told, audited, exchanging, failing,
     part, rules, two_of, vanishing,
 };
-use served::{Served, serve_two};
+use served::serve_two;
 use shared::share_core;
-use std::alloc::{AllocError, Global};
-use std::process::ExitCode;
+use std::alloc::Global;
+use std::io;
 use std::sync::Wait;
 use std::thread::Threads;
-use std::{fmt, io};
+use tally::{Relays, Tally};
 
-/// The status where memory was refused or a line not written.
-const SYSTEM_FAULT: u8 = 74;
-
-fn main(rt: HostRuntime) -> ExitCode {
-    ExitCode::from(match run_all(&rt, rt.alloc()) {
-        Ok(()) => 0,
-        Err(_) => SYSTEM_FAULT,
-    })
-}
-
-fn run_all<R: Threads + Wait + Sync + Print>(rt: &R, alloc: Global) -> io::Result<()> {
+/// Runs each kind.
+pub fn run_all<R: Threads + Wait + Sync + Print>(rt: &R, alloc: Global) -> io::Result<()> {
     share(rt, alloc)?;
     exchange(rt, alloc)?;
     relay(rt, alloc)?;
@@ -119,10 +110,7 @@ fn relay<R: Threads + Wait + Sync + Print>(rt: &R, alloc: Global) -> io::Result<
 
 /// The same, where they are served, by two workers, with the message parted behind any octet.
 fn relay_in_two<R: Threads + Wait + Sync + Print>(rt: &R, alloc: Global) -> io::Result<()> {
-    let mut relays = Relays {
-        content: 0,
-        others: 0,
-    };
+    let mut relays = Relays::NONE;
     for front in 0..=MESSAGE.len() {
         let first = Part {
             parted: Some(front),
@@ -177,7 +165,7 @@ fn fail<R: Threads + Wait + Sync + Print>(rt: &R, alloc: Global) -> io::Result<(
         tally.count_all(rt, alloc, workers, &pairs)?;
         println!(rt; "{name}, each read and each write fails: {tally}")?;
         if workers == 1 {
-            println!(rt; "devices that failed: {}", tally.failures)?;
+            println!(rt; "devices that failed: {}", tally.failures())?;
         }
     }
     Ok(())
@@ -241,107 +229,4 @@ fn tell_pair<R: Threads + Wait + Sync + Print>(
 {
     let served = serve_two(rt, alloc, workers, pair)?;
     println!(rt; "{name}: {served}")
-}
-
-/// How many runs came to a report whose capture the auditor accepts, and how many did not.
-#[derive(Clone, Copy)]
-struct Tally {
-    accepted: u64,
-    others: u64,
-    /// How many devices failed in those that are accepted.
-    failures: u64,
-}
-
-impl Tally {
-    const NONE: Tally = Tally {
-        accepted: 0,
-        others: 0,
-        failures: 0,
-    };
-
-    /// Serves two clients by so many workers, and counts what came of it.
-    fn count_pair<R: Threads + Wait + Sync>(
-        &mut self,
-        rt: &R,
-        alloc: Global,
-        workers: usize,
-        pair: &Pair,
-    ) -> Result<(), AllocError>
-        requires some { 0 < workers }
-        requires few { workers ≤ 64 }
-    {
-        self.count(serve_two(rt, alloc, workers, pair)?);
-        Ok(())
-    }
-
-    /// The same of each of these pairs.
-    fn count_all<R: Threads + Wait + Sync>(
-        &mut self,
-        rt: &R,
-        alloc: Global,
-        workers: usize,
-        pairs: &[Pair],
-    ) -> Result<(), AllocError>
-        requires some { 0 < workers }
-        requires few { workers ≤ 64 }
-    {
-        for pair in pairs {
-            self.count_pair(rt, alloc, workers, pair)?;
-        }
-        Ok(())
-    }
-
-    fn count(&mut self, served: Served) {
-        let is_accepted = match served {
-            Served::Report(verdict, _, failures) => {
-                self.failures = self.failures.saturating_add(failures);
-                matches!(verdict, Verdict::Accepted(_))
-            }
-            Served::NotAlone
-            | Served::NotLost
-            | Served::OtherOctets
-            | Served::CoreFailed(_)
-            | Served::Fault(_) => false,
-        };
-        let count = if is_accepted {
-            &mut self.accepted
-        } else {
-            &mut self.others
-        };
-        *count = count.saturating_add(1);
-    }
-}
-
-impl fmt::Display for Tally {
-    fn fmt<W: fmt::Write>(&self, f: &mut fmt::Formatter<W>) -> fmt::Result {
-        write!(f, "{} accepted, {} others", self.accepted, self.others)
-    }
-}
-
-/// In how many runs both clients were content, and the capture has one delivery to a client and two outcomes, and in how many not.
-#[derive(Clone, Copy)]
-struct Relays {
-    content: u64,
-    others: u64,
-}
-
-impl Relays {
-    fn count(&mut self, served: Served) {
-        let count = match served {
-            Served::Report(Verdict::Accepted(tally), true, _)
-                if tally.deliveries == 1 && tally.outcomes == 2 => { &mut self.content }
-            _ => &mut self.others,
-        };
-        *count = count.saturating_add(1);
-    }
-}
-
-impl fmt::Display for Relays {
-    fn fmt<W: fmt::Write>(&self, f: &mut fmt::Formatter<W>) -> fmt::Result {
-        write!(
-            f,
-            "{} of one delivery and two outcomes, {} others",
-            self.content, self.others
-        )
-    }
 }

@@ -1,9 +1,9 @@
 //! Slots at a listener, and clients beside them.
 
-use crate::step::{ScriptLine, tell};
+use crate::scripts::step::{ScriptLine, tell};
 use conn_engine::{Delivered, Gate, Ready, Taken};
+use conn_workers::{ConnectionSlot, slots_at};
 use mio::net::TcpListener;
-use socket_gates::{ConnectionSlot, slots_at};
 use std::alloc::{AllocError, AllocGlobal, Global};
 use std::io::{Read, Write};
 use std::net::{Ipv4Addr, Net, SocketAddr, TcpStream};
