@@ -9,9 +9,11 @@
 //! - `message`: the address that a message is for (`messages`);
 //! - `frame`, `header`, `sasl`: frames, protocol headers and the frames of a SASL exchange (`frames`, with
 //!   `changed` for those of which an octet is another, and `pieces` for streams of frames that come in pieces);
-//! - `stream`: the steps of a client's stream (`streams`).
+//! - `stream`: the steps of a client's stream (`streams`);
+//! - `repeat`: a task that is done over and over again (`repeated`).
 //!
-//! `words` has what all of them read and print.
+//! `words` has what all of them read and print. By the words `TASK COUNT` the program does that task so many times with the
+//! octets of its input, which are no lines then: `measure` beside `src` measures it.
 #![tactic(auto)]
 
 mod changed;
@@ -20,6 +22,7 @@ mod messages;
 mod performatives;
 mod pieces;
 mod puts;
+mod repeated;
 mod streams;
 mod values;
 mod words;
@@ -27,14 +30,47 @@ mod written;
 
 use kit_cases::{parted, word};
 use std::alloc::Global;
-use std::io;
+use std::process::ExitCode;
+use std::{env, io};
 use words::NoAnswer;
 
-fn main(rt: HostRuntime) -> io::Result<()> {
-    for line in rt.lines(rt.alloc()) {
-        tell(&rt, line?.as_str())?;
+/// The status after words that ask for nothing.
+const WORDS_FAULT: u8 = 64;
+
+/// The status where the input could not be read, or a line not written.
+const SYSTEM_FAULT: u8 = 74;
+
+fn main(rt: HostRuntime) -> ExitCode {
+    ExitCode::from(match done(&rt) {
+        Ok(true) => 0,
+        Ok(false) => WORDS_FAULT,
+        Err(_) => SYSTEM_FAULT,
+    })
+}
+
+/// Does what the words of the command ask for. It answers whether they ask for something.
+fn done(rt: &HostRuntime) -> io::Result<bool> {
+    let words: Vec<String> = env::args(rt)?.skip(1).collect(rt.alloc())?;
+    done_by(rt, words.as_slice())
+}
+
+/// Does what these words ask for.
+///
+/// It borrows the words: owned here, their drop would be proved on each way out.
+fn done_by(rt: &HostRuntime, words: &[String]) -> io::Result<bool> {
+    match words {
+        [] => tell_lines(rt),
+        [task, count] => repeated::repeat_input(rt, task.as_str(), count.as_str()),
+        _ => Ok(false),
     }
-    Ok(())
+}
+
+/// Writes each line of the input again, with what came of it where it is a case.
+fn tell_lines(rt: &HostRuntime) -> io::Result<bool> {
+    for line in rt.lines(rt.alloc()) {
+        tell(rt, line?.as_str())?;
+    }
+    Ok(true)
 }
 
 /// Writes a line again, with what came of it where it is a case.
@@ -58,6 +94,7 @@ fn answer(alloc: Global, subject: &str, words: &[&str]) -> Result<String, NoAnsw
         "header" => frames::header(alloc, word(words, 0)),
         "sasl" => frames::sasl(alloc, words),
         "stream" => streams::answer(alloc, words),
+        "repeat" => repeated::answer(alloc, words),
         _ => Err(NoAnswer::NoCase),
     }
 }

@@ -1,6 +1,6 @@
 //! The tasks that write.
 
-use crate::task::Done;
+use crate::repeated::task::Done;
 use amqp_perf::{Disposition, Flow, Outcome, State, Transfer};
 use std::alloc::AllocError;
 

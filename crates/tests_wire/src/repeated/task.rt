@@ -1,7 +1,7 @@
 //! What can be measured.
 
-use crate::reading::{copy, read_frames, read_values};
-use crate::writing::{write_disposition, write_flow, write_transfer};
+use crate::repeated::reading::{copy, read_frames, read_values};
+use crate::repeated::writing::{write_disposition, write_flow, write_transfer};
 use std::alloc::{AllocError, Global};
 use std::fmt;
 use std::fmt::{Display, Formatter};

@@ -1,6 +1,6 @@
 //! The tasks that read.
 
-use crate::task::Done;
+use crate::repeated::task::Done;
 use amqp_frames::FrameView;
 use amqp_perf::{PerfFault, Performative};
 use amqp_types::{Value, ValueFault};
