@@ -19,7 +19,7 @@ impl Part {
             None => (1, word),
         };
         Ok(Part {
-            octets: fs::read(rt, file)?,
+            octets: fs::read(rt, format!(in rt.alloc(); "examples/{file}")?)?,
             times,
         })
     }

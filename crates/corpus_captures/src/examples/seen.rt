@@ -147,7 +147,7 @@ fn tell_records(rt: &HostRuntime, capture: &Capture) -> io::Result<()> {
 
 /// Writes of each delivery of the capture `NAME.cap` what its producer would be told by the verdicts of its copies, if anything.
 pub fn tell_verdicts(rt: &HostRuntime, name: &str) -> io::Result<()> {
-    let octets = fs::read(rt, format!(in rt.alloc(); "{name}.cap")?)?;
+    let octets = fs::read(rt, format!(in rt.alloc(); "examples/{name}.cap")?)?;
     tell_verdicts_of(rt, name, octets.as_slice())
 }
 

@@ -1,7 +1,7 @@
 //! What is said of a worked capture.
 
-use crate::seen::tell_capture;
-use crate::taken::{is_audited, is_read, is_taken};
+use crate::examples::seen::tell_capture;
+use crate::examples::taken::{is_audited, is_read, is_taken};
 use audit_core::{Verdict, audit_bytes};
 use capture_form::{Capture, read_capture, write_capture};
 use std::alloc::{AllocError, Global};
@@ -9,7 +9,7 @@ use std::{fs, io};
 
 /// Writes what is said of the capture `NAME.cap`, and whether its verdict is another than `NAME.line`.
 pub fn tell_worked(rt: &HostRuntime, name: &str) -> io::Result<()> {
-    let octets = fs::read(rt, format!(in rt.alloc(); "{name}.cap")?)?;
+    let octets = fs::read(rt, format!(in rt.alloc(); "examples/{name}.cap")?)?;
     tell_octets(rt, name, octets.as_slice())
 }
 
@@ -26,7 +26,7 @@ fn tell_octets(rt: &HostRuntime, name: &str, octets: &[u8]) -> io::Result<()> {
 
 /// Whether `NAME.line` is the line of this verdict.
 fn is_line_of(rt: &HostRuntime, name: &str, verdict: Verdict) -> io::Result<bool> {
-    let wanted = fs::read_to_string(rt, format!(in rt.alloc(); "{name}.line")?)?;
+    let wanted = fs::read_to_string(rt, format!(in rt.alloc(); "examples/{name}.line")?)?;
     Ok(is_line(rt.alloc(), wanted.as_str().trim_end(), verdict)?)
 }
 

@@ -12,10 +12,10 @@
 //! | `waits=15` | how many records the capture has, and whether the delivery that begins in this one waits in the end |
 //! | `entries=21` | how many entries an auditor has behind so many records of the text, which is made while it is read |
 
-use crate::parts::{Part, PartsReader, octets_of};
-use crate::seen::tell_verdicts;
-use crate::taken::take;
-use crate::worked::{tell_other_verdicts, tell_verdict, tell_worked};
+use crate::examples::parts::{Part, PartsReader, octets_of};
+use crate::examples::seen::tell_verdicts;
+use crate::examples::taken::take;
+use crate::examples::worked::{tell_other_verdicts, tell_verdict, tell_worked};
 use audit_core::{Auditor, Verdict, audit_bytes, audit_stream};
 use capture_form::{Reader, read_capture};
 use std::alloc::Global;
