@@ -3,6 +3,7 @@
 //! Without words all are done, one behind the other. `README.md` says what each does and prints, and which words ask for
 //! one of them alone. In reading order:
 //!
+//! - `auditing`: what the auditor says of what a core holds: whatever clients did, its text is accepted
 //! - `names`, `cores`: what is there to be run, and the cores that run it
 //! - `played`: scenarios, line by line
 //! - `replayed`: the inputs of worked captures
@@ -12,6 +13,7 @@
 //! - `routed`: messages beside others, and how long they take
 #![tactic(auto)]
 
+mod auditing;
 mod cores;
 mod crowded;
 mod exchanged;

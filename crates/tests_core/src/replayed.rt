@@ -13,12 +13,12 @@ ghost use Rattle.std.specs.List.{AllByRecursion};
 ghost use Rattle.route_items.specs.Items.{IsShort};
 
 use crate::WRONG;
+use crate::auditing::audit_core_text;
 use crate::cores::{LIMIT, text_in_form};
 use crate::names::is_wanted;
 use address_table::Rules;
 use audit_core::Verdict;
 use capture_form::{Capture, Reading, Record, What, read_whole_records};
-use core_verdict::audit_core_text;
 use kit_cases::names_in;
 use route_core::Core;
 use route_items::{Item, StepFault};
