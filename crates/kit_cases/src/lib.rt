@@ -1,4 +1,4 @@
-//! What programs stand on that do what each line of a file says, and tell what came of it.
+//! Cases, a line each, done and told. Programs stand on it that do what each line of a file says, and tell what came of it.
 //!
 //! In reading order: `words` are the words of a line; `cases` are lines that have cases; `names` are the names of the files of a
 //! folder.

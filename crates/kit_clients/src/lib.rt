@@ -1,4 +1,4 @@
-//! What several programs of tests stand on: clients, what they say, and choices by chance.
+//! Clients for tests: what they say, and choices by chance. Several programs of tests stand on it.
 //!
 //! - `chance`: choices by chance, the same in each run of a seed;
 //! - `fields`: the octets of frames as clients write them, well-formed or not: numbers and lists in their longest form, which
