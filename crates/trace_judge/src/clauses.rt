@@ -4,6 +4,7 @@ ghost use Rattle.capture_form.specs.Rules.{RuleSet};
 ghost use Rattle.std.specs.Prelude.{◌≡◌, IfSome, List, Some, None, if◌then◌else◌, find, length, not};
 ghost use Rattle.amqp_perf.specs.View.{disposition_fields, transfer_fields, attach_fields};
 ghost use Rattle.trace_events.specs.Words.{is_some_and};
+ghost use Rattle.trace_events.specs.Said.{as_transfer, out_transfer};
 ghost use Rattle.trace_events.specs.Session.{StandsLive};
 ghost use Rattle.trace_events.specs.Link.{NamesLive};
 ghost use Rattle.trace_values.specs.Known.{CarriesKnown};
@@ -80,6 +81,12 @@ fn broken_by_transfer<'a, P: Counts + Carriage<'a> + Outcomes<'a>>(
         (event_view event.now).number ≡ length history →
         CarriesKnown (λ n. P.knows_number past.now n history) (λ j. P.knows_outgoing past.now j history) (event_view event.now) →
         result ≡ None → find (λ clause. not (law.transfer_meets rules.now (event_view event.now) (transfer_fields transfer.now) payload.now history clause)) law.clauses ≡ None }
+    // Where it can tell of what the transfer carries too, it is the first that is broken.
+    ensures known { (history : Events) → P.stands_for past.now rules.now history → P.keeps_last past.now history → StandsLive (event_view event.now) history → NamesLive (event_view event.now) history →
+        (event_view event.now).number ≡ length history →
+        CarriesKnown (λ n. P.knows_number past.now n history) (λ j. P.knows_outgoing past.now j history) (event_view event.now) →
+        IfSome (transfers.to_carry rules.now (event_view event.now).note history) (λ d. P.knows_incoming past.now d history) →
+        (result ≡ find (λ clause. not (law.transfer_meets rules.now (event_view event.now) (transfer_fields transfer.now) payload.now history clause)) law.clauses) }
 {
     let begins = event.begins_outgoing();
     if !has_link_and_window(past, event, transfer) {
@@ -191,6 +198,12 @@ fn broken_by_spoken<'a, 'm: 'a, P: Questions<'a>>(
         (event_view event.now).number ≡ length history →
         CarriesKnown (λ n. P.knows_number past.now n history) (λ j. P.knows_outgoing past.now j history) (event_view event.now) →
         result ≡ None → law.broken_by rules.now (event_view event.now) (frame_view frame.now) history (Some (spoken_view spoken.now)) ≡ None }
+    // Where it can tell of what a transfer carries too, it is the first that is broken.
+    ensures known { (history : Events) → P.stands_for past.now rules.now history → P.keeps_last past.now history → StandsLive (event_view event.now) history → NamesLive (event_view event.now) history →
+        (event_view event.now).number ≡ length history →
+        CarriesKnown (λ n. P.knows_number past.now n history) (λ j. P.knows_outgoing past.now j history) (event_view event.now) →
+        IfSome (as_transfer (spoken_view spoken.now).meaning) (λ fields. IfSome (transfers.to_carry rules.now (event_view event.now).note history) (λ d. P.knows_incoming past.now d history)) →
+        (result ≡ law.broken_by rules.now (event_view event.now) (frame_view frame.now) history (Some (spoken_view spoken.now))) }
 {
     if !may_be_written(past, event.connection, spoken)
         || !fits_limit(past, event.connection, frame)
@@ -228,6 +241,12 @@ pub fn broken_clause<'a, 'm: 'a, P: Questions<'a>>(
         (event_view event.now).number ≡ length history →
         CarriesKnown (λ n. P.knows_number past.now n history) (λ j. P.knows_outgoing past.now j history) (event_view event.now) →
         result ≡ None → law.broken_clause rules.now (event_view event.now) history ≡ None }
+    // Where it can tell of what a transfer carries too, it is the first that is broken.
+    ensures known { (history : Events) → P.stands_for past.now rules.now history → P.keeps_last past.now history → StandsLive (event_view event.now) history → NamesLive (event_view event.now) history →
+        (event_view event.now).number ≡ length history →
+        CarriesKnown (λ n. P.knows_number past.now n history) (λ j. P.knows_outgoing past.now j history) (event_view event.now) →
+        IfSome (out_transfer (event_view event.now)) (λ fields. IfSome (transfers.to_carry rules.now (event_view event.now).note history) (λ d. P.knows_incoming past.now d history)) →
+        (result ≡ law.broken_clause rules.now (event_view event.now) history) }
 {
     let Moment::Out(frame) = event.moment else {
         return None;

@@ -32,7 +32,10 @@ pub trait Carriage<'a>: History {
             IfSome (option_map incoming_view result) (λ d. Self.knows_incoming self.now d history) }
         // What is found is what the law finds, whatever has been let go.
         ensures found { (history : Events) → Self.stands_for self.now rules.now history →
-            IfSome (option_map incoming_view result) (λ d. transfers.to_carry rules.now note history ≡ Some d) };
+            IfSome (option_map incoming_view result) (λ d. transfers.to_carry rules.now note history ≡ Some d) }
+        // What the law finds is found, where it can tell of it.
+        ensures all { (history : Events) → Self.stands_for self.now rules.now history →
+            IfSome (transfers.to_carry rules.now note history) (λ d. Self.knows_incoming self.now d history → option_map incoming_view result ≡ Some d) };
 
     /// It is for this address: its link's, or where that has none its message's.
     fn is_for(&self, delivery: &Incoming, address: &[u8]) -> bool
