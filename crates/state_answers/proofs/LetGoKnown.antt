@@ -1,13 +1,18 @@
 -- What the tables can tell was not let go, and of nothing that was let go another carrier begins.
-use Rattle.std.proofs.Common.{◌≡◌, refl, sym, ap, ◌∙◌, ℕ, false, List, [], ◌∷◌, Option, Some, None, option_map}
+use Rattle.std.proofs.Common.{◌≡◌, refl, sym, ap, ◌∙◌, ℕ, false, not, ◌&&◌, List, [], ◌∷◌, Option, Some, None, IfSome, option_map}
 use Rattle.pairing_cert.specs.declared.note.Note.{Note}
 use Rattle.pairing_cert.specs.declared.note.Note.TheVariants as notes
 use Rattle.capture_form.specs.Rules.{RuleSet}
 use Rattle.trace_events.specs.Words.{is_some_and}
 use Rattle.trace_events.specs.Event.{Event, Incoming, Outgoing}
-use Rattle.trace_events.specs.Outgoing.{outgoing_begun}
+use Rattle.trace_events.specs.Incoming.{is_complete}
+use Rattle.trace_events.specs.Outgoing.{noted, outgoing_begun}
+use Rattle.trace_events.specs.Waiting.{is_gone}
 use Rattle.trace_events.proofs.Judged.{AreJudged}
 use Rattle.trace_clauses.specs.Clauses.{first_broken}
+use Rattle.trace_clauses.specs.TransferClause.{to_carry}
+use Rattle.trace_clauses.proofs.OneConsumer.{passes-some}
+use Rattle.trace_clauses.proofs.OutgoingProgress.{noted_pair}
 use Rattle.state_tables.specs.LetGo.{is_let_go, names_let_go}
 use Rattle.state_incoming.specs.EntryAnswers.{Knows}
 use Rattle.state_incoming.specs.Held.{Held, held_at}
@@ -39,6 +44,18 @@ known-kept rules past table were d knows gone alike = ap (λ (items : List (ℕ 
     by : (o : Option Held) → held_in table d.number ≡ o → option_map (λ (x : Held). x.delivery) o ≡ Some d → is_let_go table.let_go.items d.number ≡ false
     by None is knows = absurd cc
     by (Some x) is knows = (kept-law (is_let_go table.let_go.items d.number) (held_at rules d.number past) x (sym (were d.number) ∙ is)).0
+
+-- nor does a note name one that was let go where the table can tell of what it names
+pub noted-kept : (rules : RuleSet) (past : List Event) → AreJudged rules past → (table : Deliveries) → AreHeld rules table past → (note : Note) (d : Incoming) → to_carry rules note past ≡ Some d
+    → Knows table d → names_let_go table.let_go.items note ≡ false
+noted-kept rules past are table were note d is knows =
+    let named = noted_pair rules past are note d (passes-some (λ x. is_complete x past && not (is_gone rules x past)) (noted note past) d is).0 in
+    ap (names_let_go table.let_go.items) named.0 ∙ known-kept rules past table were d knows table.let_go.items refl
+
+-- what is so of whatever is there
+pub if-some : {A : Type 0} (P : A → Type 0) (o : Option A) → ((x : A) → o ≡ Some x → P x) → IfSome o P
+if-some P None each = tt
+if-some P (Some x) each = each x refl
 
 -- what a lawful next event begins carries none that was let go
 pub begins-apart : (rules : RuleSet) (e : Event) (past : List Event) → AreJudged rules (e ∷ past) → first_broken rules (e ∷ past) ≡ None → (table : Deliveries) → AreOver rules table past

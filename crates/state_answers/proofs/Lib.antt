@@ -5,8 +5,10 @@ mod LetGoKnown
 mod LetGoNext
 mod LastsKept
 mod CompletedExamples
+mod TablesExamples
 mod CarriedKnown
 mod CarriedLast
+mod CarriedThere
 pub mod LiveKnown
 pub mod NextKnown
 mod Moved

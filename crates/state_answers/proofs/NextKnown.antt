@@ -1,15 +1,18 @@
 -- What a next record carries and opens is known to the tables of a lawful capture.
-use Rattle.std.proofs.Common.{◌≡◌, inl, inr, true, List, None, is_some}
+use Rattle.std.proofs.Common.{◌≡◌, refl, ◌∙◌, inl, inr, true, List, ◌∷◌, None, IfSome, is_some}
 use Rattle.capture_form.specs.Rules.{RuleSet}
 use Rattle.capture_form.specs.declared.records.Record.{Record}
-use Rattle.trace_clauses.specs.Clauses.{broken_clause}
+use Rattle.trace_clauses.specs.Clauses.{broken_clause, first_broken}
 use Rattle.trace_clauses.specs.LinkClause.{asking}
+use Rattle.trace_clauses.specs.TransferClause.{to_carry}
+use Rattle.trace_clauses.proofs.Unopened.{broken-unopened}
 use Rattle.trace_events.specs.Event.{Event, Outgoing}
-use Rattle.trace_events.specs.History.{judge_unopened, moment_of}
+use Rattle.trace_events.specs.History.{judge, judge_unopened, moment_of}
+use Rattle.trace_events.specs.Said.{out_transfer}
 use Rattle.trace_events.specs.Session.{has_unanswered_begin}
 use Rattle.trace_values.specs.Known.{CarriesKnown, OpensKnown}
 use Rattle.state_tables.proofs.OpenedKnown.{opens-known}
-use Rattle.state_incoming.specs.EntryAnswers.{has_entry}
+use Rattle.state_incoming.specs.EntryAnswers.{Knows, has_entry}
 use Rattle.state_incoming.proofs.GroupAnswers.{judged-of}
 use Rattle.state_outgoing.specs.SentAnswers.{KnowsOrBegins}
 use Rattle.state_outgoing.specs.declared.deliveries.SentDeliveries.{SentDeliveries}
@@ -23,6 +26,7 @@ use Rattle.state_tables.specs.declared.copies.Copies.{Copies}
 use Rattle.state_verdicts.specs.declared.verdicts.Verdicts.{Verdicts}
 use Rattle.state_answers.specs.Tables.{StandFor}
 use Rattle.state_answers.proofs.CarriedKnown.{carries-known}
+use Rattle.state_answers.proofs.CarriedThere.{names-known}
 use Rattle.state_answers.proofs.OutgoingKnown.{BeginsOrGoesOn}
 
 -- a record before what it opens is filled in
@@ -41,3 +45,11 @@ module _ (rules : RuleSet) (past : List Event) (connections : Connections) (link
   pub next-opens : broken_clause rules (unopened rules past r) past ≡ None
       → OpensKnown (λ c channel. has_unanswered_begin c channel past ≡ true) (λ s handle. is_some (asking s handle past) ≡ true) (unopened rules past r)
   next-opens unbroken = opens-known rules (unopened rules past r) past are.1.1.1.1.1.1.1.0 unbroken
+
+  pub next-names : broken_clause rules (unopened rules past r) past ≡ None
+      → IfSome (out_transfer (unopened rules past r)) (λ fields. IfSome (to_carry rules (unopened rules past r).note past) (Knows deliveries))
+  next-names unbroken =
+      let before : first_broken rules past ≡ None = are.1.1.1.1.1.1.1.0 in
+      let met : broken_clause rules (judge rules past r) past ≡ None = broken-unopened rules past r ∙ unbroken in
+      let lawful : first_broken rules (judge rules past r ∷ past) ≡ None = rw (before, met) refl in
+      names-known rules (judge rules past r) past ((r, refl), judged-of rules past are.0) lawful deliveries are.1.1.1.1.0.1.1 are.1.1.1.1.0.0

@@ -65,6 +65,10 @@ pub record IsReady (tables : Tables) (n : ℕ) : Type 0 where
   pub copied : (link : ℕ) → is_member nat_eq tables.verdicts.of_delivery n link ≡ false
   pub finished : list_all (is_done_in tables.sent) (carriers_in tables.sent.begun n) ≡ true
 
+-- one of those that carry the delivery of this number is the last on a live link of a consumer
+abbrev pub is_carried_last : Tables → ℕ → Bool
+is_carried_last tables n = list_any (is_last_in tables.sent tables.consumer_links) (carriers_in tables.sent.begun n)
+
 -- of no live link of a consumer the last delivery carries one that was let go
 abbrev pub KeepsLast : List (ℕ × Unit {0}) → List Event → Type 0
 KeepsLast gone past = (link : ℕ) → is_some (consumer_at link past) ≡ true → is_last_let_go gone link past ≡ false
@@ -76,11 +80,15 @@ LetsGoAtMost earlier later =
     ⊎ ((n : ℕ) × ((number_at earlier.deliveries earlier.turn ≡ Some n)
     × ((is_some_and (held_in earlier.deliveries n) is_spent ≡ true) × (later.deliveries.let_go.items ≡ earlier.deliveries.let_go.items ++ (n, tt) ∷ []))))
 
--- one of those that carry the delivery which has its turn is the last on a live link of a consumer
+-- the delivery that has its turn is carried last on a live link of a consumer; where this is not said of one that is spent, it is not so
 abbrev pub IsTurnOfLast : Tables → Bool → Type 0
 IsTurnOfLast tables result =
-    result ≡ false → (n : ℕ) → number_at tables.deliveries tables.turn ≡ Some n → is_some_and (held_in tables.deliveries n) is_spent ≡ true
-    → list_any (is_last_in tables.sent tables.consumer_links) (carriers_in tables.sent.begun n) ≡ false
+    (result ≡ true → (n : ℕ) × ((number_at tables.deliveries tables.turn ≡ Some n) × (is_carried_last tables n ≡ true)))
+    × (result ≡ false → (n : ℕ) → number_at tables.deliveries tables.turn ≡ Some n → is_some_and (held_in tables.deliveries n) is_spent ≡ true → is_carried_last tables n ≡ false)
+
+-- nothing can come of it any more, and it is carried last on no live link of a consumer
+abbrev pub IsToGo : Tables → ℕ → Type 0
+IsToGo tables n = IsReady tables n × (is_carried_last tables n ≡ false)
 
 -- the place that has its turn behind the one that has it now
 abbrev pub turn_behind : Tables → ℕ

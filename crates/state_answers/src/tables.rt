@@ -6,7 +6,7 @@ ghost use Rattle.capture_form.specs.declared.records.Record.{Record};
 ghost use Rattle.trace_events.specs.History.{history};
 ghost use Rattle.state_tables.specs.Addressed.{IsAddressed};
 ghost use Rattle.state_tables.specs.Connections.{IsLawfulNext};
-ghost use Rattle.state_answers.specs.Tables.{AreTables, AreWhole, IsReady, IsTurnOfLast, IsWhole, KeepsLast, LetsGoAtMost, StandFor, completed_with, entries_of, kept_in, turn_behind};
+ghost use Rattle.state_answers.specs.Tables.{AreTables, AreWhole, IsReady, IsToGo, IsTurnOfLast, IsWhole, KeepsLast, LetsGoAtMost, StandFor, completed_with, entries_of, kept_in, turn_behind};
 ghost use Rattle.state_incoming.specs.HeldTables.{number_at};
 ghost use Rattle.trace_values.specs.View.{Events, event_view};
 
@@ -233,6 +233,12 @@ impl Tables {
             AreTables rules self.new (history rules records) }
         ensures last { (rules : RuleSet) (records : List Record) → AreTables rules self.old (history rules records) →
             KeepsLast self.old.deliveries.let_go.items (history rules records) → KeepsLast self.new.deliveries.let_go.items (history rules records) }
+        // The one whose turn it is goes where it is ready, and no such delivery carries it; else the next one has its turn.
+        ensures lets { (n : ℕ) → number_at self.old.deliveries self.old.turn ≡ Some n → IsToGo self.old n →
+            self.new.deliveries.let_go.items ≡ self.old.deliveries.let_go.items ++ (n, tt) ∷ [] }
+        ensures turns { ((n : ℕ) → number_at self.old.deliveries self.old.turn ≡ Some n → IsToGo self.old n → ⊥) →
+            self.new.turn ≡ turn_behind self.old }
+        ensures most { LetsGoAtMost self.old self.new }
         ensures counted { self.new.completed ≡ self.old.completed }
     {
         if self.has_last_turn() {
