@@ -18,6 +18,11 @@ pub on-ok : {P Q : Type 0} (result : Result (Unit {0}) NotEntered) → OnOk resu
 on-ok (Ok done) is f = f is
 on-ok (Err why) is f = tt
 
+-- the same of why nothing is held
+pub on-err : {P Q : NotEntered → Type 0} (result : Result (Unit {0}) NotEntered) → IfErr result P → ((why : NotEntered) → P why → Q why) → IfErr result Q
+on-err (Ok done) is f = tt
+on-err (Err why) is f = f why is
+
 module _ (rules : RuleSet) (tables : Tables) (number : ℕ) (r : Record) (held : Event) where
   abbrev pub Answers : Result (Unit {0}) NotEntered → Type 0
   Answers result = (records : List Record) → AreTables rules tables (history rules records) → AreWhole tables → number ≡ length (history rules records) → IsHeldAnswer rules (history rules records) r held result

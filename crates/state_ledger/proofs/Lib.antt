@@ -3,3 +3,4 @@ mod HeldAnswers
 mod UnopenedRecords
 pub mod NextAnswers
 mod EventExamples
+mod LedgerExamples

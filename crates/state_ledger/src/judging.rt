@@ -1,8 +1,10 @@
 //! The next record of a capture, judged by whoever can tell of those before it.
 
-ghost use Rattle.std.specs.Prelude.{OnOk, ◌≡◌, ◌≢◌, None, IfErr, length};
+ghost use Rattle.std.specs.Prelude.{OnOk, ◌≡◌, ◌≢◌, None, IfErr, IfSome, is_some, length, true};
 ghost use Rattle.trace_clauses.specs.Clauses as law;
+ghost use Rattle.trace_clauses.specs.TransferClause.{to_carry};
 ghost use Rattle.trace_events.specs.History.{moment_of};
+ghost use Rattle.trace_events.specs.Said.{out_transfer};
 ghost use Rattle.state_ledger.specs.HeldEvents.{held_event_view};
 ghost use Rattle.state_ledger.specs.NextEvents.{IsHeldAnswer, unopened};
 ghost use Rattle.state_ledger.specs.declared.not_entered.NotEntered.TheVariants.{Memory};
@@ -41,6 +43,12 @@ pub fn hold_next<'a, 'm: 'a, P: Questions<'a>>(
         (law.broken_clause rules.now (unopened rules.now history entry.now) history ≡ None →
         OpensKnown (λ c channel. P.knows_begin past.now c channel history) (λ s handle. P.knows_attach past.now s handle history) (unopened rules.now history entry.now)) →
         IsHeldAnswer rules.now history entry.now (held_event_view held.new (moment_of entry.now.what)) result) }
+    // Where it can tell of what a lawful transfer carries too, a record that is refused breaks a clause.
+    ensures broken { IfErr result (λ why. why ≢ Memory → (history : Events) → P.stands_for past.now rules.now history → P.keeps_last past.now history → number ≡ length history →
+        CarriesKnown (λ n. P.knows_number past.now n history) (λ j. P.knows_outgoing past.now j history) (unopened rules.now history entry.now) →
+        (law.broken_clause rules.now (unopened rules.now history entry.now) history ≡ None →
+        IfSome (out_transfer (unopened rules.now history entry.now)) (λ fields. IfSome (to_carry rules.now (unopened rules.now history entry.now).note history) (λ d. P.knows_incoming past.now d history))) →
+        is_some (law.broken_clause rules.now (unopened rules.now history entry.now) history) ≡ true) }
     ensures same { IfErr result (λ why. why ≢ Memory → held.new ≡ held.old) }
 {
     let mut event = judge_unopened(past, rules, number, entry);

@@ -1,6 +1,6 @@
 //! What the records of a capture have come to.
 
-ghost use Rattle.std.specs.Prelude.{◌≡◌, ◌≢◌, ◌<◌, ◌^◌, ◌∷◌, [], ◌++◌, List, None, IfErr, IfOk, OnOk, false, true, length};
+ghost use Rattle.std.specs.Prelude.{◌≡◌, ◌≢◌, ◌<◌, ◌^◌, ◌∷◌, [], ◌++◌, List, None, IfErr, IfOk, OnOk, false, is_some, length, true};
 ghost use Rattle.capture_form.specs.Rules.{RuleSet};
 ghost use Rattle.capture_form.specs.declared.records.Record.{Record};
 ghost use Rattle.trace_events.specs.History.{history, moment_of};
@@ -52,7 +52,7 @@ impl Ledger {
     }
 
     /// No records. It is to let go of what a lawful record cannot name any more, so that its memory does not grow with the capture;
-    /// of a record that it refuses it cannot say which clause it breaks, nor that it breaks one. It takes no memory.
+    /// of a record that it refuses it cannot say which clause it breaks first. It takes no memory.
     pub fn forgetting(alloc: Global) -> Ledger
         ensures stand { (rules : RuleSet) → Stands rules result [] }
         ensures forgets { result.forgets ≡ true }
@@ -112,13 +112,15 @@ impl Ledger {
     ///
     /// # Errors
     ///
-    /// The first clause that it breaks; then the ledger is as it was. One that forgets names some clause, and the record need not
-    /// break it. Or memory was refused; then it may agree with no records any more.
+    /// The first clause that it breaks; then the ledger is as it was. One that forgets names some clause, where the record breaks
+    /// that one or another. Or memory was refused; then it may agree with no records any more.
     pub fn enter(&mut self, rules: &RuleSet, entry: &Record) -> Result<(), NotEntered>
         requires few { self.old.tally.records < 2 ^ 63 }
         ensures met { OnOk result ((records : List Record) → Stands rules.now self.old records → broken_behind rules.now records entry.now ≡ None) }
         ensures entered { OnOk result ((records : List Record) → Stands rules.now self.old records → Stands rules.now self.new (records ++ entry.now ∷ [])) }
         ensures reason { IfErr result (λ why. self.old.forgets ≡ false → (records : List Record) → Stands rules.now self.old records → IsReason rules.now records entry.now why) }
+        // Also what one that forgets refuses breaks a clause.
+        ensures broken { IfErr result (λ why. why ≢ Memory → (records : List Record) → Stands rules.now self.old records → is_some (broken_behind rules.now records entry.now) ≡ true) }
         ensures alike { self.new.forgets ≡ self.old.forgets }
         ensures same { IfErr result (λ why. why ≢ Memory → self.new ≡ self.old) }
     {
@@ -146,6 +148,8 @@ impl Ledger {
         let event = self.held.event(entry);
         self.tables.take(rules, &event)?;
         self.tally = counted(self.tally, &event);
+        // Two are looked at, since a record may make one delivery more: so what is over does not grow while others stay open.
+        self.forget();
         self.forget();
         Ok(())
     }
@@ -180,6 +184,8 @@ fn hold_event<'a, 'm: 'a>(
         broken_behind rules.now records entry.now ≡ None) }
     ensures reason { IfErr result (λ why. (records : List Record) → AreTables rules.now tables.now (history rules.now records) → AreWhole tables.now → number ≡ length (history rules.now records) →
         IsReason rules.now records entry.now why) }
+    ensures broken { IfErr result (λ why. why ≢ Memory → (records : List Record) → AreTables rules.now tables.now (history rules.now records) → KeepsLast tables.now.deliveries.let_go.items (history rules.now records) → number ≡ length (history rules.now records) →
+        is_some (broken_behind rules.now records entry.now) ≡ true) }
     ensures same { IfErr result (λ why. why ≢ Memory → held.new ≡ held.old) }
 {
     let looked = tables.looked();

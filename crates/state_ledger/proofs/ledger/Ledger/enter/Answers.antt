@@ -1,4 +1,4 @@
-use Rattle.std.proofs.Common.{◌≡◌, ap, subst, [], ◌∷◌, ◌++◌, None}
+use Rattle.std.proofs.Common.{◌≡◌, ap, subst, [], ◌∷◌, ◌++◌, None, is_some, true}
 use Rattle.std.proofs.lemmas.Result.{err_from_is_err_and}
 use Rattle.capture_form.specs.declared.records.Record.{Record}
 use Rattle.trace_clauses.specs.declared.tally.Tally.{Tally}
@@ -23,3 +23,10 @@ returns-in_err-hold_event-clause-reason c =
     rw (p.1, p.2) (λ keeps records stands.
     subst (λ (r : Record). IsReason c.args.rules.now records r c.in_err-hold_event.field-0.0) c.of-entry.ensures
     (c.in_err-hold_event.ensures.reason records stands.0 (stands.1.1.0 keeps) (ap (λ (x : Tally). x.records) stands.1.0)))
+
+pub returns-in_err-hold_event-clause-broken : goal.returns-in_err-hold_event-clause-broken
+returns-in_err-hold_event-clause-broken c =
+    let p = err_from_is_err_and c.from_residual.result c.from_residual.ensures.1 in
+    rw (p.1, p.2) (λ not_memory records stands.
+    subst (λ (r : Record). is_some (broken_behind c.args.rules.now records r) ≡ true) c.of-entry.ensures
+    (c.in_err-hold_event.ensures.broken not_memory records stands.0 stands.1.1.1 (ap (λ (x : Tally). x.records) stands.1.0)))

@@ -17,4 +17,5 @@ returns-clause-stand c = λ lt records held stands.
     (c.counted-self.ensures past stands.1.0 (few rules records r c.args.self.now.tally stands.1.0 lt)) in
     let last = subst (λ (p : List Event). KeepsLast c.take.new.self.deliveries.let_go.items p) (longer-past rules records r (event_view c.event-event.result) next.0)
     (c.in_ok-take.ensures.last records r next stands.0 stands.1.1.1) in
-    c.forget.ensures.stand rules (records ++ r ∷ []) (both.0, (both.1, ((λ keeps. c.in_ok-take.ensures.whole (stands.1.1.0 keeps)), last)))
+    let one = c.forget.ensures.stand rules (records ++ r ∷ []) (both.0, (both.1, ((λ keeps. c.in_ok-take.ensures.whole (stands.1.1.0 keeps)), last))) in
+    c.forget-2.ensures.stand rules (records ++ r ∷ []) one
