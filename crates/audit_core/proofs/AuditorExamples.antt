@@ -1,5 +1,5 @@
 -- What the words for an auditor say, at small captures.
-use Rattle.std.proofs.Common.{◌≡◌, ℕ, [], ◌∷◌, Option, Some, None, Err, refl, sym, ap, ◌∙◌, inl, inr, arith}
+use Rattle.std.proofs.Common.{◌≡◌, ℕ, true, false, [], ◌∷◌, Option, Some, None, Err, is_some, refl, sym, ap, ◌∙◌, inl, inr, arith}
 use Rattle.capture_form.specs.declared.records.Record.{Record}
 use Rattle.capture_form.specs.Rules.{RuleSet, no_rules}
 use Rattle.trace_clauses.specs.declared.clause.Clause.{Clause}
@@ -14,10 +14,10 @@ use Rattle.trace_events.specs.History.{history}
 use Rattle.state_ledger.specs.Ledger.{broken_behind}
 use Rattle.audit_core.specs.declared.auditor.Auditor.{Auditor}
 use Rattle.audit_core.specs.declared.verdict.Refusal.TheVariants.{Broken, Memory}
-use Rattle.audit_core.specs.Auditor.{Agrees, StandsFor, IsRefusalBehind}
+use Rattle.audit_core.specs.Auditor.{Agrees, Follows, StandsFor, IsBrokenBehind, IsRefusalBehind}
 use Rattle.capture_form.specs.declared.fault.FormKind.TheVariants as kinds
 use Rattle.audit_core.specs.declared.verdict.Verdict.TheVariants.{Accepted, Refused, Malformed, NoMemory, Unreadable}
-use Rattle.audit_core.specs.Verdict.{WantsMemory, AnswersCapture, AcceptsUnlessRefused}
+use Rattle.audit_core.specs.Verdict.{WantsMemory, AnswersCapture, AcceptsUnlessRefused, is_sure}
 
 -- the router's open on a connection that nobody opened
 abbrev unasked : Record
@@ -37,21 +37,31 @@ some_is_none x e = cc
 -- ---- agreeing
 
 module _ (auditor : Auditor) (rules : RuleSet) where
-  -- what stands for a lawful record, and has not stopped, agrees with it
-  agrees : StandsFor auditor rules (opened 0 ∷ []) → auditor.refusal ≡ None → Agrees auditor rules (opened 0 ∷ [])
-  agrees stands runs = record { stands = stands; counted = stands.1.1.0; lawful = refl; runs = runs }
+  -- what stands for a lawful record, and has not stopped, follows it
+  follows : StandsFor auditor rules (opened 0 ∷ []) → auditor.refusal ≡ None → Follows auditor rules (opened 0 ∷ [])
+  follows stands runs = record { stands = stands; counted = stands.1.1.0; lawful = refl; runs = runs }
 
   -- it has another number of records
-  fewer : auditor.ledger.tally ≡ tally_of [] → Agrees auditor rules (opened 0 ∷ []) → ⊥
-  fewer counts a = absurd (omega (arith, ap (λ (t : Tally). t.records) (sym counts ∙ a.counted)))
+  fewer : auditor.ledger.tally ≡ tally_of [] → Follows auditor rules (opened 0 ∷ []) → ⊥
+  fewer counts f = absurd (omega (arith, ap (λ (t : Tally). t.records) (sym counts ∙ f.counted)))
 
   -- one of them breaks a clause
-  broken : Agrees auditor no_rules (unasked ∷ []) → ⊥
-  broken a = some_is_none (0, L1) (sym first_unasked ∙ a.lawful)
+  broken : Follows auditor no_rules (unasked ∷ []) → ⊥
+  broken f = some_is_none (0, L1) (sym first_unasked ∙ f.lawful)
 
   -- it has stopped
-  ended : auditor.refusal ≡ Some Memory → Agrees auditor rules (opened 0 ∷ []) → ⊥
-  ended stopped a = let runs : Some Memory ≡ None = sym stopped ∙ a.runs in absurd cc
+  ended : auditor.refusal ≡ Some Memory → Follows auditor rules (opened 0 ∷ []) → ⊥
+  ended stopped f = let runs : Some Memory ≡ None = sym stopped ∙ f.runs in absurd cc
+
+  -- what follows it and keeps all agrees with it; what forgets does not, nor what does not follow it
+  agrees : Follows auditor rules (opened 0 ∷ []) → auditor.ledger.forgets ≡ false → Agrees auditor rules (opened 0 ∷ [])
+  agrees follows keeps = record { follows = follows; keeps = keeps }
+
+  forgets : auditor.ledger.forgets ≡ true → Agrees auditor rules (opened 0 ∷ []) → ⊥
+  forgets is a = let never : true ≡ false = sym is ∙ a.keeps in absurd cc
+
+  of_another : auditor.ledger.tally ≡ tally_of [] → Agrees auditor rules (opened 0 ∷ []) → ⊥
+  of_another counts a = fewer counts a.follows
 
 -- ---- refusing
 
@@ -67,6 +77,27 @@ other_clause why = let same : Some L1 ≡ Some L2 = sym broken_unasked ∙ why.1
 
 not_broken : IsRefusalBehind no_rules [] (opened 0) (Broken 0 L1) → ⊥
 not_broken why = let never : ◌≡◌ {A = Option Clause} None (Some L1) = why.1 in absurd cc
+
+-- some clause, whichever is named; no other number, and no record that breaks none
+broken_by_another : IsBrokenBehind no_rules [] unasked (Broken 0 L2)
+broken_by_another = (refl, ap is_some broken_unasked)
+
+broken_elsewhere : IsBrokenBehind no_rules [] unasked (Broken 1 L1) → ⊥
+broken_elsewhere why = absurd (omega (arith, why.0))
+
+unbroken : IsBrokenBehind no_rules [] (opened 0) (Broken 0 L1) → ⊥
+unbroken why = let never : false ≡ true = why.1 in absurd cc
+
+-- ---- being sure
+
+sure_that_keeps : is_sure false (Refused 0 L1) ≡ true
+sure_that_keeps = refl
+
+not_sure_of_a_refusal : is_sure true (Refused 0 L1) ≡ false
+not_sure_of_a_refusal = refl
+
+sure_of_others : (tally : Tally) → (is_sure true (Accepted tally) ≡ true) × (is_sure true (Malformed 0 kinds.Magic) ≡ true) × (is_sure true (NoMemory 5) ≡ true) × (is_sure true (Unreadable 0) ≡ true)
+sure_of_others tally = (refl, refl, refl, refl)
 
 -- ---- wanting memory
 

@@ -45,6 +45,22 @@ sure_refusal false refusal offset sure Q none keeps = keeps refl
 sure_refusal true Memory offset sure Q none keeps = none
 sure_refusal true (Broken number clause) offset sure Q none keeps = absurd cc
 
+-- who is not sure of a refusal was not refused for want of memory
+pub unsure_refusal : (forgets : Bool) (refusal : Refusal) (offset : ℕ) → is_sure forgets (verdict_of_refusal offset refusal) ≡ false → refusal ≢ Memory
+unsure_refusal forgets (Broken number clause) offset unsure e = cc
+unsure_refusal forgets Memory offset unsure e = let never : true ≡ false = unsure in absurd cc
+
+-- of a fault each is sure
+pub sure_fault : (forgets : Bool) (kind : FormKind) (offset : ℕ) → is_sure forgets (verdict_of_fault kind offset) ≡ true
+sure_fault forgets kinds.Magic offset = refl
+sure_fault forgets kinds.Rules offset = refl
+sure_fault forgets kinds.Kind offset = refl
+sure_fault forgets kinds.Note offset = refl
+sure_fault forgets kinds.Length offset = refl
+sure_fault forgets kinds.Truncated offset = refl
+sure_fault forgets kinds.Memory offset = refl
+sure_fault forgets kinds.Read offset = refl
+
 pub no_want : (number : ℕ) (clause : Clause) → Broken number clause ≢ Memory
 no_want number clause e = cc
 
@@ -54,7 +70,7 @@ pub seen_by : {R : Type 0} (remaining : R → Option (List ℕ)) (rules : RuleSe
 seen_by remaining rules left reader auditor offset P seen s p = record {
   records = s.records;
   bounds = s.bounds;
-  agrees = s.agrees;
+  follows = s.follows;
   read = s.read;
   place = s.place;
   at = s.at;
@@ -128,7 +144,7 @@ module _ {W : Type 0} (saw : W → RuleSet → List Record → Type 0) (refuses 
     ends_by tally None left next taken read = tt
     ends_by tally (Some all) None next taken read = absurd taken
     ends_by tally (Some all) (Some rest) next taken read =
-        saw_all (head_text rules ++ all) rest (begins rules so_far.records offset so_far.bounds so_far.agrees.lawful so_far.place all rest taken) read.0
+        saw_all (head_text rules ++ all) rest (begins rules so_far.records offset so_far.bounds so_far.follows.lawful so_far.place all rest taken) read.0
 
     pub ends_seen : (tally : Tally) (next : Option (List ℕ)) → IfSome (left_of remaining reader) (λ octets. IsNext octets next None)
         → IfSome first (λ all. Watched saw refuses before (head_text rules ++ all) (Accepted tally))
@@ -136,8 +152,8 @@ module _ {W : Type 0} (saw : W → RuleSet → List Record → Type 0) (refuses 
 
     stopped : (octets rest : List ℕ) (form_kind : FormKind) → octets ≡ text (record { rules = rules; records = so_far.records }) ++ rest → 0 < length rest → record_at rest ≡ Err form_kind → saw before (reading octets).rules (reading octets).records
     stopped octets rest form_kind spelled some e =
-        subst (λ (own : RuleSet). saw before own (reading octets).records) (sym (rules_to rules so_far.records octets rest so_far.bounds so_far.agrees.lawful spelled))
-        (subst (λ (records : List Record). saw before rules records) (sym (reads_to rules so_far.records octets rest so_far.bounds so_far.agrees.lawful spelled form_kind some e)) so_far.seen)
+        subst (λ (own : RuleSet). saw before own (reading octets).records) (sym (rules_to rules so_far.records octets rest so_far.bounds so_far.follows.lawful spelled))
+        (subst (λ (records : List Record). saw before rules records) (sym (reads_to rules so_far.records octets rest so_far.bounds so_far.follows.lawful spelled form_kind some e)) so_far.seen)
 
     stops_at : (octets rest : List ℕ) (form_kind : FormKind) (at : ℕ) → octets ≡ text (record { rules = rules; records = so_far.records }) ++ rest → StopsNext form_kind rest → Watched saw refuses before octets (verdict_of_fault form_kind at)
     stops_at octets rest kinds.Magic at spelled stops = stopped octets rest kinds.Magic spelled stops.0 stops.1
@@ -154,7 +170,7 @@ module _ {W : Type 0} (saw : W → RuleSet → List Record → Type 0) (refuses 
     stops_by form_kind at None left taken stops = tt
     stops_by form_kind at (Some all) None taken stops = absurd taken
     stops_by form_kind at (Some all) (Some rest) taken stops =
-        stops_at (head_text rules ++ all) rest form_kind at (begins rules so_far.records offset so_far.bounds so_far.agrees.lawful so_far.place all rest taken) stops
+        stops_at (head_text rules ++ all) rest form_kind at (begins rules so_far.records offset so_far.bounds so_far.follows.lawful so_far.place all rest taken) stops
 
     pub stops_seen : (fault : FormFault) → (fault_of reader ≡ None → IfSome (left_of remaining reader) (StopsNext fault.kind))
         → IfSome first (λ all. Watched saw refuses before (head_text rules ++ all) (verdict_of_fault fault.kind fault.offset))
@@ -169,8 +185,8 @@ module _ {W : Type 0} (saw : W → RuleSet → List Record → Type 0) (refuses 
         before = so_far.records;
         entry = entry;
         rest = behind;
-        bounds = longer_bounds rules so_far.records octets rest so_far.bounds so_far.agrees.lawful spelled entry behind fits next;
-        begins = longer_begins rules so_far.records octets rest so_far.bounds so_far.agrees.lawful spelled entry behind fits next;
+        bounds = longer_bounds rules so_far.records octets rest so_far.bounds so_far.follows.lawful spelled entry behind fits next;
+        begins = longer_begins rules so_far.records octets rest so_far.bounds so_far.follows.lawful spelled entry behind fits next;
         place = why.0;
         seen = told (no_want number clause);
       }
@@ -180,7 +196,7 @@ module _ {W : Type 0} (saw : W → RuleSet → List Record → Type 0) (refuses 
       refuses_by refusal None left next taken read why told = tt
       refuses_by refusal (Some all) None next taken read why told = absurd taken
       refuses_by refusal (Some all) (Some rest) next taken read why told =
-          saw_refused (head_text rules ++ all) rest read.0 refusal (begins rules so_far.records offset so_far.bounds so_far.agrees.lawful so_far.place all rest taken) read.1.spelled why told
+          saw_refused (head_text rules ++ all) rest read.0 refusal (begins rules so_far.records offset so_far.bounds so_far.follows.lawful so_far.place all rest taken) read.1.spelled why told
 
       pub refuses_seen : (refusal : Refusal) (next : Option (List ℕ)) → IfSome (left_of remaining reader) (λ octets. IsNext octets next (Some entry))
           → IsRefusalBehind rules so_far.records entry refusal → (refusal ≢ Memory → refuses after rules so_far.records entry)

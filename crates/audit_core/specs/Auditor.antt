@@ -1,5 +1,5 @@
 -- What an auditor has come to: for which capture it stands, or at which refusal it stopped.
-use Rattle.std.specs.Prelude.{◌≡◌, ℕ, Bool, List, length, Option, Some, None, ⊤}
+use Rattle.std.specs.Prelude.{◌≡◌, ℕ, Bool, true, false, List, length, Option, Some, None, is_some, ⊤}
 use Rattle.capture_form.specs.declared.records.Record.{Record}
 use Rattle.capture_form.specs.Rules.{RuleSet}
 use Rattle.trace_clauses.specs.declared.tally.Tally.{Tally}
@@ -42,12 +42,17 @@ refusal_of auditor = auditor.refusal
 
 -- ---- what that means
 
--- an auditor agrees with the capture of these rules and records: it took each of them, and each meets the clauses
-pub record Agrees (auditor : Auditor) (rules : RuleSet) (records : List Record) : Type 0 where
+-- an auditor follows the capture of these rules and records: it took each of them, and each meets the clauses
+pub record Follows (auditor : Auditor) (rules : RuleSet) (records : List Record) : Type 0 where
   pub stands : StandsFor auditor rules records
   pub counted : tally_by auditor ≡ tally_of (history rules records)
   pub lawful : first_broken rules (history rules records) ≡ None
   pub runs : refusal_of auditor ≡ None
+
+-- it agrees with the capture: it follows it, and keeps all
+pub record Agrees (auditor : Auditor) (rules : RuleSet) (records : List Record) : Type 0 where
+  pub follows : Follows auditor rules records
+  pub keeps : forgets_by auditor ≡ false
 
 -- it answers this refusal for good
 abbrev pub Stopped : Auditor → Refusal → Type 0
@@ -58,6 +63,11 @@ Stopped auditor refusal = refusal_of auditor ≡ Some refusal
 abbrev pub IsRefusalBehind : RuleSet → List Record → Record → Refusal → Type 0
 IsRefusalBehind rules records entry (Broken number clause) = (number ≡ length records) × (broken_behind rules records entry ≡ Some clause)
 IsRefusalBehind rules records entry Memory = ⊤
+
+-- the same of one that forgets: the record is the first that breaks a clause, this one or another
+abbrev pub IsBrokenBehind : RuleSet → List Record → Record → Refusal → Type 0
+IsBrokenBehind rules records entry (Broken number clause) = (number ≡ length records) × (is_some (broken_behind rules records entry) ≡ true)
+IsBrokenBehind rules records entry Memory = ⊤
 
 -- why the record of a number is refused
 abbrev pub refusal_at : ℕ → NotEntered → Refusal

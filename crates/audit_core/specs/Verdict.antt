@@ -153,6 +153,10 @@ is_sure forgets (Malformed offset form_kind) = true
 is_sure forgets (NoMemory offset) = true
 is_sure forgets (Unreadable offset) = true
 
+-- octets that are refused: a record of them breaks a clause
+abbrev pub AreRefused : List ℕ → Type 0
+AreRefused octets = (number : ℕ) × ((clause : Clause) × Refuses octets number clause)
+
 -- ---- what acceptance is worth
 
 -- The octets are the text of a capture in which every transfer that was sent stood within its link's credit and its

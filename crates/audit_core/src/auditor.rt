@@ -7,7 +7,7 @@ ghost use Rattle.capture_form.specs.Text.{IsRecord};
 ghost use Rattle.state_ledger.specs.Ledger.{Stands, broken_behind};
 ghost use Rattle.audit_core.specs.declared.auditor.TheConstants.{MOST_RECORDS};
 ghost use Rattle.audit_core.specs.declared.verdict.Refusal.TheVariants.{Memory};
-ghost use Rattle.audit_core.specs.Auditor.{Agrees, IsRefusalBehind, StandsFor, Stopped, entries_by, forgets_by, refusal_at, refusal_of, rules_of, tally_by};
+ghost use Rattle.audit_core.specs.Auditor.{Agrees, Follows, IsBrokenBehind, IsRefusalBehind, StandsFor, Stopped, entries_by, forgets_by, refusal_at, refusal_of, rules_of, tally_by};
 
 use crate::verdict::Refusal;
 use capture_form::{Record, RuleSet};
@@ -41,17 +41,16 @@ impl Auditor {
     /// An auditor of a capture with these rules, which has taken no record yet. It takes no memory.
     pub fn new(alloc: Global, rules: RuleSet) -> Auditor
         requires { AreRules rules }
-        ensures agrees { Agrees result rules [] }
-        ensures keeps { forgets_by result ≡ false }
+        ensures { Agrees result rules [] }
     {
         Auditor::over(rules, Ledger::new(alloc))
     }
 
     /// The same, which lets go of what a lawful record cannot name any more, so that its memory does not grow with the capture. Of
-    /// a record that it refuses it cannot say that it breaks a clause, nor which.
+    /// a record that it refuses it cannot say which clause it breaks first.
     pub(crate) fn forgetting(alloc: Global, rules: RuleSet) -> Auditor
         requires { AreRules rules }
-        ensures agrees { Agrees result rules [] }
+        ensures follows { Follows result rules [] }
         ensures forgets { forgets_by result ≡ true }
     {
         Auditor::over(rules, Ledger::forgetting(alloc))
@@ -60,7 +59,7 @@ impl Auditor {
     /// An auditor over this ledger, which has no records.
     fn over(rules: RuleSet, ledger: Ledger) -> Auditor
         requires { (of : RuleSet) → Stands of ledger [] }
-        ensures agrees { Agrees result rules [] }
+        ensures follows { Follows result rules [] }
         ensures kind { forgets_by result ≡ ledger.forgets }
     {
         Auditor {
@@ -83,8 +82,7 @@ impl Auditor {
         ensures met { OnOk result ((rules : RuleSet) (records : List Record) → Agrees self.old rules records → broken_behind rules records entry ≡ None) }
         ensures taken { OnOk result ((rules : RuleSet) (records : List Record) → Agrees self.old rules records → Agrees self.new rules (records ++ entry ∷ [])) }
         // Or it breaks this clause first, unless memory was refused.
-        ensures refused { IfErr result (λ refusal. forgets_by self.old ≡ false → (rules : RuleSet) (records : List Record) → Agrees self.old rules records → IsRefusalBehind rules records entry refusal) }
-        ensures kind { forgets_by self.new ≡ forgets_by self.old }
+        ensures refused { IfErr result (λ refusal. (rules : RuleSet) (records : List Record) → Agrees self.old rules records → IsRefusalBehind rules records entry refusal) }
         // The refusal is answered for good, and then nothing changes.
         ensures stopped { IfErr result (Stopped self.new) }
         ensures again { IfSome (refusal_of self.old) (λ refusal. (result ≡ Err refusal) × (self.new ≡ self.old)) }
@@ -102,8 +100,8 @@ impl Auditor {
 
     /// How many entries it has: connections of which a record stands; sessions that are live or await their end; links that
     /// are live or await their detach; begins, attaches, detaches and ends of clients that are still to be answered; and the
-    /// deliveries from clients that are kept. A delivery to a client is no entry, though it is kept to the end, so this does
-    /// not bound the memory. The greatest number where there are more.
+    /// deliveries from clients that are kept. A delivery to a client is no entry, though one that keeps all keeps it to the end, so
+    /// this does not bound the memory. The greatest number where there are more.
     pub fn entries(&self) -> usize
         ensures { result ≡ entries_by self.now }
     {
@@ -134,9 +132,10 @@ impl Auditor {
     /// Takes a record that is lent. What it keeps of those before stands as it stood where a clause refuses this one.
     pub(crate) fn follow(&mut self, entry: &Record) -> Result<(), Refusal>
         requires { (tally_by self.old).records < MOST_RECORDS }
-        ensures met { OnOk result ((rules : RuleSet) (records : List Record) → Agrees self.old rules records → broken_behind rules records entry.now ≡ None) }
-        ensures taken { OnOk result ((rules : RuleSet) (records : List Record) → Agrees self.old rules records → Agrees self.new rules (records ++ entry.now ∷ [])) }
-        ensures refused { IfErr result (λ refusal. forgets_by self.old ≡ false → (rules : RuleSet) (records : List Record) → Agrees self.old rules records → IsRefusalBehind rules records entry.now refusal) }
+        ensures met { OnOk result ((rules : RuleSet) (records : List Record) → Follows self.old rules records → broken_behind rules records entry.now ≡ None) }
+        ensures taken { OnOk result ((rules : RuleSet) (records : List Record) → Follows self.old rules records → Follows self.new rules (records ++ entry.now ∷ [])) }
+        ensures refused { IfErr result (λ refusal. forgets_by self.old ≡ false → (rules : RuleSet) (records : List Record) → Follows self.old rules records → IsRefusalBehind rules records entry.now refusal) }
+        ensures broken { IfErr result (λ refusal. (rules : RuleSet) (records : List Record) → Follows self.old rules records → IsBrokenBehind rules records entry.now refusal) }
         ensures kind { forgets_by self.new ≡ forgets_by self.old }
         ensures stopped { IfErr result (Stopped self.new) }
         ensures again { IfSome (refusal_of self.old) (λ refusal. (result ≡ Err refusal) × (self.new ≡ self.old)) }
@@ -153,9 +152,10 @@ impl Auditor {
     /// Enters the record behind those that it took, if it meets the law.
     fn judge(&mut self, entry: &Record) -> Result<(), Refusal>
         requires { (tally_by self.old).records < MOST_RECORDS }
-        ensures met { OnOk result ((rules : RuleSet) (records : List Record) → Agrees self.old rules records → broken_behind rules records entry.now ≡ None) }
-        ensures taken { OnOk result ((rules : RuleSet) (records : List Record) → Agrees self.old rules records → Agrees self.new rules (records ++ entry.now ∷ [])) }
-        ensures refused { IfErr result (λ refusal. forgets_by self.old ≡ false → (rules : RuleSet) (records : List Record) → Agrees self.old rules records → IsRefusalBehind rules records entry.now refusal) }
+        ensures met { OnOk result ((rules : RuleSet) (records : List Record) → Follows self.old rules records → broken_behind rules records entry.now ≡ None) }
+        ensures taken { OnOk result ((rules : RuleSet) (records : List Record) → Follows self.old rules records → Follows self.new rules (records ++ entry.now ∷ [])) }
+        ensures refused { IfErr result (λ refusal. forgets_by self.old ≡ false → (rules : RuleSet) (records : List Record) → Follows self.old rules records → IsRefusalBehind rules records entry.now refusal) }
+        ensures broken { IfErr result (λ refusal. (rules : RuleSet) (records : List Record) → Follows self.old rules records → IsBrokenBehind rules records entry.now refusal) }
         ensures kind { forgets_by self.new ≡ forgets_by self.old }
         ensures same { IfErr result (λ refusal. refusal ≢ Memory → self.new ≡ self.old) }
     {

@@ -6,7 +6,7 @@ ghost use Rattle.capture_form.specs.Text.{text};
 ghost use Rattle.trace_clauses.specs.declared.tally.Tally.{Tally};
 ghost use Rattle.audit_core.specs.declared.verdict.Verdict.{Verdict};
 ghost use Rattle.audit_core.specs.declared.verdict.Verdict.TheVariants.{Accepted};
-ghost use Rattle.audit_core.specs.Auditor.{Agrees, forgets_by};
+ghost use Rattle.audit_core.specs.Auditor.{Follows, forgets_by};
 ghost use Rattle.audit_core.specs.Verdict.{Answers, AnswersCapture, IsKept, answer_of};
 ghost use Rattle.audit_core.specs.Stops.{StopsAudit, stop_of, stops_within, refusal_on, verdict_on};
 
@@ -111,9 +111,9 @@ fn audit_records(alloc: Global, capture: &Capture) -> Result<Tally, Stop>
 
 /// The auditor, which took no record yet, takes those of the capture.
 fn follow_records(auditor: &mut Auditor, capture: &Capture) -> Result<(), Stop>
-    requires agrees { Agrees auditor.old capture.now.rules [] }
+    requires follows { Follows auditor.old capture.now.rules [] }
     requires keeps { forgets_by auditor.old ≡ false }
-    ensures accepted { OnOk result (Agrees auditor.new capture.now.rules capture.now.records) }
+    ensures accepted { OnOk result (Follows auditor.new capture.now.rules capture.now.records) }
     ensures stopped { IfErr result (StopsAudit capture.now) }
 {
     for (number, entry) in capture.records().iter().enumerate() {

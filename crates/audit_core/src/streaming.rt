@@ -8,8 +8,8 @@ ghost use Rattle.trace_clauses.specs.declared.tally.Tally.{Tally};
 ghost use Rattle.audit_core.specs.declared.verdict.Verdict.TheVariants.{Accepted, Unreadable};
 ghost use Rattle.audit_core.specs.declared.verdict.Refusal.TheVariants.{Memory};
 ghost use Rattle.audit_core.specs.declared.auditor.TheConstants.{MOST_RECORDS};
-ghost use Rattle.audit_core.specs.Auditor.{Agrees, IsRefusalBehind, forgets_by, rules_of, tally_by};
-ghost use Rattle.audit_core.specs.Verdict.{AnswersRead, IsKept, is_sure, verdict_of_fault, verdict_of_refusal};
+ghost use Rattle.audit_core.specs.Auditor.{Follows, IsBrokenBehind, IsRefusalBehind, forgets_by, rules_of, tally_by};
+ghost use Rattle.audit_core.specs.Verdict.{AnswersRead, AreRefused, IsKept, is_sure, verdict_of_fault, verdict_of_refusal};
 ghost use Rattle.capture_form.specs.Text.{head_text};
 ghost use Rattle.audit_core.specs.Watching.{Watched};
 
@@ -67,12 +67,14 @@ pub fn audit_text<R: Read, W: Watcher>(
 }
 
 /// The verdict of `audit_stream`, by an auditor whose memory does not grow with the capture but with what its clients have open:
-/// it lets go of deliveries of which no lawful record speaks any more. `None` where a record is none that such an auditor takes:
-/// what it breaks, `audit_stream` tells of the same octets, read once more from their start.
+/// it lets go of deliveries of which no lawful record speaks any more. `None` where a record breaks a clause: which one,
+/// `audit_stream` tells of the same octets, read once more from their start.
 pub fn audit_forgetting<R: Read>(alloc: Global, reader: R) -> Option<Verdict>
 where
     R: Drop,
-    ensures { IfSome result (λ verdict. IfSome (R.remaining reader) (λ octets. AnswersRead octets verdict)) }
+    ensures answers { IfSome result (λ verdict. IfSome (R.remaining reader) (λ octets. AnswersRead octets verdict)) }
+    ensures kept { IfSome result (λ verdict. IfSome (R.remaining reader) (λ octets. (tally : Tally) → verdict ≡ Accepted tally → IsKept octets)) }
+    ensures refused { result ≡ None → IfSome (R.remaining reader) AreRefused }
 {
     audit_watched_forgetting(alloc, reader, &mut Unwatched)
 }
@@ -86,6 +88,8 @@ pub fn audit_watched_forgetting<R: Read, W: Watcher>(
 where
     R: Drop,
     ensures answers { IfSome result (λ verdict. IfSome (R.remaining reader) (λ octets. AnswersRead octets verdict)) }
+    ensures kept { IfSome result (λ verdict. IfSome (R.remaining reader) (λ octets. (tally : Tally) → verdict ≡ Accepted tally → IsKept octets)) }
+    ensures refused { result ≡ None → IfSome (R.remaining reader) AreRefused }
     ensures watched { IfSome result (λ verdict. ((rules : RuleSet) → W.saw watcher.old watcher.old rules []) →
         IfSome (R.remaining reader) (λ octets. Watched (W.saw watcher.old) (W.saw_refused watcher.old) watcher.new octets verdict)) }
 {
@@ -97,7 +101,8 @@ where
 
 /// The verdict, if an auditor that forgets is sure of it.
 fn surely(verdict: Verdict) -> Option<Verdict>
-    ensures { IfSome result (λ sure. (sure ≡ verdict) × (is_sure true verdict ≡ true)) }
+    ensures sure { IfSome result (λ sure. (sure ≡ verdict) × (is_sure true verdict ≡ true)) }
+    ensures none { result ≡ None → is_sure true verdict ≡ false }
 {
     match verdict {
         Verdict::Refused(_, _) => None,
@@ -117,6 +122,7 @@ fn audit_as<R: Read, W: Watcher>(
 ) -> Verdict
     requires { IsNew text.old }
     ensures answers { is_sure forgets result ≡ true → IfSome (left_of R.remaining text.old) (λ octets. AnswersRead octets result) }
+    ensures refused { is_sure forgets result ≡ false → IfSome (left_of R.remaining text.old) AreRefused }
     ensures watched { is_sure forgets result ≡ true → ((rules : RuleSet) → W.saw watcher.old watcher.old rules []) → IfSome (left_of R.remaining text.old) (λ octets. Watched (W.saw watcher.old) (W.saw_refused watcher.old) watcher.new octets result) }
     ensures unreadable { (offset : ℕ) → result ≡ Unreadable offset → IsUnreadable text.new }
 {
@@ -132,7 +138,7 @@ fn audit_as<R: Read, W: Watcher>(
 /// An auditor of a capture with these rules, which forgets, or keeps all.
 fn auditor_of(alloc: Global, rules: RuleSet, forgets: bool) -> Auditor
     requires { AreRules rules }
-    ensures agrees { Agrees result rules [] }
+    ensures follows { Follows result rules [] }
     ensures kind { forgets_by result ≡ forgets }
 {
     if forgets {
@@ -149,10 +155,11 @@ fn audit_read<R: Read, W: Watcher>(
     watcher: &mut W,
 ) -> Verdict
     requires rules { AreRules (rules_of auditor.old) }
-    requires agrees { Agrees auditor.old (rules_of auditor.old) [] }
+    requires follows { Follows auditor.old (rules_of auditor.old) [] }
     requires place { offset_of records.old ≡ length (head_text (rules_of auditor.old)) }
     requires runs { fault_of records.old ≡ None }
     ensures answers { is_sure (forgets_by auditor.old) result ≡ true → IfSome (left_of R.remaining records.old) (λ left. AnswersRead (head_text (rules_of auditor.old) ++ left) result) }
+    ensures refused { is_sure (forgets_by auditor.old) result ≡ false → IfSome (left_of R.remaining records.old) (λ left. AreRefused (head_text (rules_of auditor.old) ++ left)) }
     ensures watched { is_sure (forgets_by auditor.old) result ≡ true → W.saw watcher.old watcher.old (rules_of auditor.old) [] → IfSome (left_of R.remaining records.old) (λ left. Watched (W.saw watcher.old) (W.saw_refused watcher.old) watcher.new (head_text (rules_of auditor.old) ++ left) result) }
     ensures unreadable { (offset : ℕ) → result ≡ Unreadable offset → IsUnreadable records.new }
 {
@@ -169,11 +176,12 @@ fn follow_read<R: Read, W: Watcher>(
     watcher: &mut W,
 ) -> Verdict
     requires rules { AreRules (rules_of auditor.old) }
-    requires agrees { Agrees auditor.old (rules_of auditor.old) [] }
+    requires follows { Follows auditor.old (rules_of auditor.old) [] }
     requires head { offset ≡ length (head_text (rules_of auditor.old)) }
     requires place { offset_of records.old ≡ length (head_text (rules_of auditor.old)) }
     requires runs { fault_of records.old ≡ None }
     ensures answers { is_sure (forgets_by auditor.old) result ≡ true → IfSome (left_of R.remaining records.old) (λ left. AnswersRead (head_text (rules_of auditor.old) ++ left) result) }
+    ensures refused { is_sure (forgets_by auditor.old) result ≡ false → IfSome (left_of R.remaining records.old) (λ left. AreRefused (head_text (rules_of auditor.old) ++ left)) }
     ensures watched { is_sure (forgets_by auditor.old) result ≡ true → W.saw watcher.old watcher.old (rules_of auditor.old) [] → IfSome (left_of R.remaining records.old) (λ left. Watched (W.saw watcher.old) (W.saw_refused watcher.old) watcher.new (head_text (rules_of auditor.old) ++ left) result) }
     ensures unreadable { (number : ℕ) → result ≡ Unreadable number → IsUnreadable records.new }
 {
@@ -204,12 +212,13 @@ fn take_watched<W: Watcher>(
     watcher: &mut W,
 ) -> Result<(), Refusal>
     requires few { (tally_by auditor.old).records < MOST_RECORDS }
-    requires agrees { (records : List Record) × Agrees auditor.old (rules_of auditor.old) records }
-    ensures taken { OnOk result ((rules : RuleSet) (records : List Record) → Agrees auditor.old rules records → Agrees auditor.new rules (records ++ entry ∷ [])) }
-    ensures refused { IfErr result (λ refusal. forgets_by auditor.old ≡ false → (rules : RuleSet) (records : List Record) → Agrees auditor.old rules records → IsRefusalBehind rules records entry refusal) }
-    ensures seen { OnOk result ((first : W) (rules : RuleSet) (records : List Record) → Agrees auditor.old rules records → W.saw first watcher.old rules records → W.saw first watcher.new rules (records ++ entry ∷ [])) }
+    requires follows { (records : List Record) × Follows auditor.old (rules_of auditor.old) records }
+    ensures taken { OnOk result ((rules : RuleSet) (records : List Record) → Follows auditor.old rules records → Follows auditor.new rules (records ++ entry ∷ [])) }
+    ensures refused { IfErr result (λ refusal. forgets_by auditor.old ≡ false → (rules : RuleSet) (records : List Record) → Follows auditor.old rules records → IsRefusalBehind rules records entry refusal) }
+    ensures broken { IfErr result (λ refusal. (rules : RuleSet) (records : List Record) → Follows auditor.old rules records → IsBrokenBehind rules records entry refusal) }
+    ensures seen { OnOk result ((first : W) (rules : RuleSet) (records : List Record) → Follows auditor.old rules records → W.saw first watcher.old rules records → W.saw first watcher.new rules (records ++ entry ∷ [])) }
     ensures kind { forgets_by auditor.new ≡ forgets_by auditor.old }
-    ensures explained { IfErr result (λ refusal. forgets_by auditor.old ≡ false → refusal ≢ Memory → (first : W) (rules : RuleSet) (records : List Record) → Agrees auditor.old rules records → W.saw first watcher.old rules records → W.saw_refused first watcher.new rules records entry) }
+    ensures explained { IfErr result (λ refusal. forgets_by auditor.old ≡ false → refusal ≢ Memory → (first : W) (rules : RuleSet) (records : List Record) → Follows auditor.old rules records → W.saw first watcher.old rules records → W.saw_refused first watcher.new rules records entry) }
 {
     match auditor.follow(&entry) {
         Ok(()) => match watcher.taken(auditor.ledger(), auditor.rules(), &entry) {

@@ -1,5 +1,5 @@
 use Rattle.std.proofs.Common.{◌<◌, sym, subst, ap, ◌∙◌, length, take, get_or, arith}
-use Rattle.audit_core.specs.Auditor.{Agrees}
+use Rattle.audit_core.specs.Auditor.{Follows}
 use Rattle.audit_core.specs.Stops.{StopsAudit}
 use Rattle.audit_core.proofs.Recorded.{pushed, refused, so_many, took_all}
 use Rattle.audit_core.proofs.judging.follow_records.Goals as goal
@@ -23,7 +23,7 @@ loop-number-preserved c =
     let value = c.records-entry-items.ensures.value in
     let lt : c.loop-number.number < length c.args.capture.now.records = subst (λ rs. c.loop-number.number < length rs) value c.loop-number-test.true in
     let is = c.entry-item.is ∙ ap (λ rs. get_or rs c.loop-number.number c.entry-item.result) value in (
-      subst (λ rs. Agrees c.follow.new.self c.args.capture.now.rules rs) (pushed c.args.capture.now.records c.loop-number.number c.entry-item.result c.entry-item.result lt is)
+      subst (λ rs. Follows c.follow.new.self c.args.capture.now.rules rs) (pushed c.args.capture.now.records c.loop-number.number c.entry-item.result c.entry-item.result lt is)
           (c.in_default.ensures.taken c.args.capture.now.rules (take c.loop-number.number c.args.capture.now.records) c.loop-number.invariant.0),
       c.in_default.ensures.kind ∙ c.loop-number.invariant.1,
     )

@@ -9,16 +9,16 @@ use Rattle.audit_core.proofs.streaming.take_watched.Goals as goal
 
 pub taken-requires : goal.taken-requires
 taken-requires g c =
-    let records = c.requires.agrees.0 in
-    let agrees = c.in-Ok.ensures.taken (rules_of c.args.auditor.now) records c.requires.agrees.1 in
-    (records, held_by c.follow.new.self c.rules.result.now c.ledger.result.now c.rules.ensures c.ledger.ensures (rules_of c.args.auditor.now) (records ++ c.args.entry ∷ []) agrees.stands)
+    let records = c.requires.follows.0 in
+    let follows = c.in-Ok.ensures.taken (rules_of c.args.auditor.now) records c.requires.follows.1 in
+    (records, held_by c.follow.new.self c.rules.result.now c.ledger.result.now c.rules.ensures c.ledger.ensures (rules_of c.args.auditor.now) (records ++ c.args.entry ∷ []) follows.stands)
 
 pub returns-in-Ok-taken-clause-seen : goal.returns-in-Ok-taken-clause-seen
-returns-in-Ok-taken-clause-seen g c = λ first rules records agrees seen.
+returns-in-Ok-taken-clause-seen g c = λ first rules records follows seen.
     seen_taken (g.W.Watcher.saw first) (g.W.Watcher.saw_refused first) c.args.watcher.now c.taken.new.self c.follow.new.self c.rules.result.now c.ledger.result.now c.args.entry c.rules.ensures c.ledger.ensures (c.in-Ok-taken.ensures first)
-    rules records (c.in-Ok.ensures.taken rules records agrees).stands seen
+    rules records (c.in-Ok.ensures.taken rules records follows).stands seen
 
 pub returns-in-Ok-refused-clause-explained : goal.returns-in-Ok-refused-clause-explained
-returns-in-Ok-refused-clause-explained g c = λ keeps no first rules records agrees seen.
+returns-in-Ok-refused-clause-explained g c = λ keeps no first rules records follows seen.
     explained (g.W.Watcher.saw first) (g.W.Watcher.saw_refused first) c.args.watcher.now c.refused.new.self c.follow.new.self c.rules-in-Err-Broken.result.now c.ledger-in-Err-Broken.result.now c.args.entry c.rules-in-Err-Broken.ensures c.ledger-in-Err-Broken.ensures (c.in-Ok-refused.ensures first)
-    (ap (λ (l : Ledger). l.forgets) c.ledger-in-Err-Broken.ensures ∙ (c.follow.ensures.kind ∙ keeps)) rules records (c.in-Err-Broken.ensures.stands (subst (λ (r : Refusal). r ≢ Memory) (sym c.in-Err-Broken.field-0-is) no) rules records agrees.stands) seen
+    (ap (λ (l : Ledger). l.forgets) c.ledger-in-Err-Broken.ensures ∙ (c.follow.ensures.kind ∙ keeps)) rules records (c.in-Err-Broken.ensures.stands (subst (λ (r : Refusal). r ≢ Memory) (sym c.in-Err-Broken.field-0-is) no) rules records follows.stands) seen
