@@ -2,8 +2,9 @@
 //! are refused.
 //!
 //! The captures are the files `NAME.cap` of the folder that the program runs in. For each, in the order of their names, it
-//! prints the name and the line of its verdict, and whether an auditor that forgets has another one. Of those that the file `told` there names, one on a line, it prints behind this
-//! what `amqp_show --why` says: the line of the verdict, and the reason in words. `README.md` says what each capture tells apart.
+//! prints the name and the line of its verdict, and whether an auditor that forgets has another one. Of those that the file `told`
+//! there names, one on a line, it prints behind this what `amqp_show --why` says: the line of the verdict, and the reason in words.
+//! `README.md` says what each capture tells apart.
 //!
 //! Each is also damaged, by the choices of a seed, and at the end it is told how many of these captures the auditor and the
 //! plain checker judge alike (`damaged`).
