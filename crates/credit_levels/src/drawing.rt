@@ -1,11 +1,11 @@
 //! A capture, audited and drawn.
 
-ghost use Rattle.std.specs.Prelude.{◌≡◌, IfOk, IfSome, List, option_map};
+ghost use Rattle.std.specs.Prelude.{◌≡◌, IfOk, IfSome, List, None, option_map};
 ghost use Rattle.std.specs.String.{string_bytes};
 ghost use Rattle.capture_form.specs.Rules.{RuleSet};
 ghost use Rattle.svg_text.specs.Drawn.{IsSvg};
 ghost use Rattle.trace_events.specs.Event.{Event};
-ghost use Rattle.audit_core.specs.Verdict.{AnswersRead};
+ghost use Rattle.audit_core.specs.Verdict.{AnswersRead, AreRefused};
 ghost use Rattle.credit_levels.specs.declared.pick.Pick as picks;
 ghost use Rattle.credit_chart.specs.Curves.{HasCurves};
 ghost use Rattle.credit_levels.specs.Levels.{AreOf, levels_of};
@@ -57,8 +57,8 @@ where
     Ok(Drawn { text, verdict })
 }
 
-/// The same as `draw_credit`, in memory that does not grow with a lawful capture. `None` where a record is none that an auditor which
-/// forgets takes: the same octets are then to be read once more from their start, by `draw_credit`.
+/// The same as `draw_credit`, in memory that does not grow with a lawful capture. `None` where a record breaks a clause: the same
+/// octets are then to be read once more from their start, by `draw_credit`.
 ///
 /// # Errors
 ///
@@ -72,6 +72,7 @@ pub fn draw_credit_forgetting<R: Read>(
 where
     R: Drop,
     ensures answers { IfOk result (λ sure. IfSome sure (λ drawn. IfSome (R.remaining input) (λ octets. AnswersRead octets drawn.verdict))) }
+    ensures refused { IfOk result (λ sure. sure ≡ None → IfSome (R.remaining input) AreRefused) }
     ensures document { IfOk result (λ sure. IfSome sure (λ drawn. IfSome drawn.text (λ text. IsSvg (string_bytes text)))) }
     ensures curves { IfOk result (λ sure. IfSome sure (λ drawn. IfSome (R.remaining input) (λ octets. DrawsTaken title.now pick.entry octets drawn.verdict (option_map string_bytes drawn.text)))) }
 {
