@@ -10,7 +10,7 @@ mod kinds;
 mod run;
 mod writer;
 
-use kinds::Tally;
+use kinds::CaptureCounts;
 use kit_gates::{
     BEGINS_LATE, CONSUMER, IN_HASTE, MESSAGE, ONE_BY_ONE, OPENS_LATE, Pace, Pair, Part, QUIET,
     RELAY, RELAY_IN_TWO, RELAYED, RunRules, STRANGERS, exchanging, failing, part, two_of,
@@ -64,7 +64,7 @@ fn relay<R: Print>(rt: &R, alloc: Global) -> io::Result<()> {
     tell_pair(rt, alloc, "anonymous", &served)?;
     let refused = two_of(part(RELAY, IN_HASTE), part(RELAYED, IN_HASTE));
     tell_pair(rt, alloc, "anonymous not served", &refused)?;
-    let mut tally = Tally::NONE;
+    let mut tally = CaptureCounts::NONE;
     for front in 0..=MESSAGE.len() {
         let first = Part {
             parted: Some(front),
@@ -97,7 +97,7 @@ fn take_turns<R: Print>(rt: &R, alloc: Global) -> io::Result<()> {
 
 /// The exchange, where one of both is gone behind any octet.
 fn vanish<R: Print>(rt: &R, alloc: Global) -> io::Result<()> {
-    let tally = Tally::of(alloc, &vanishing(alloc, IN_HASTE)?)?;
+    let tally = CaptureCounts::of(alloc, &vanishing(alloc, IN_HASTE)?)?;
     println!(rt; "gone behind any octet: {tally}")
 }
 
@@ -107,13 +107,13 @@ fn fail<R: Print>(rt: &R, alloc: Global) -> io::Result<()> {
         patience: PATIENCE_OF_ONE,
         ..ONE_BY_ONE
     };
-    let tally = Tally::of(alloc, &failing(alloc, pace)?)?;
+    let tally = CaptureCounts::of(alloc, &failing(alloc, pace)?)?;
     println!(rt; "each read and each write fails: {tally}")
 }
 
 /// Clients that speak something else, beside one that keeps to its script.
 fn meet_strangers<R: Print>(rt: &R, alloc: Global) -> io::Result<()> {
-    let mut tally = Tally::NONE;
+    let mut tally = CaptureCounts::NONE;
     for script in STRANGERS {
         let pair = two_of(part(script, IN_HASTE), part(CONSUMER, IN_HASTE));
         tally.count(serve_two(alloc, &pair, ROOM)?);
@@ -127,7 +127,7 @@ fn take_nothing<R: Print>(rt: &R, alloc: Global) -> io::Result<()> {
         takes: false,
         ..IN_HASTE
     };
-    let mut tally = Tally::NONE;
+    let mut tally = CaptureCounts::NONE;
     for (first, second) in [(silent, IN_HASTE), (IN_HASTE, silent), (silent, silent)] {
         tally.count(serve_two(alloc, &exchanging(first, second), ROOM)?);
     }
@@ -143,7 +143,7 @@ fn stop<R: Print>(rt: &R, alloc: Global) -> io::Result<()> {
     tell_pair(rt, alloc, "a full core", &full)?;
     let pair = exchanging(ONE_BY_ONE, ONE_BY_ONE);
     let whole = serve_two(alloc, &pair, ROOM)?;
-    let mut tally = Tally::NONE;
+    let mut tally = CaptureCounts::NONE;
     for room in 0..whole.octets {
         tally.count(serve_two(alloc, &pair, room)?);
     }

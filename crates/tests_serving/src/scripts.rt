@@ -61,8 +61,8 @@ where
     println!(rt; "== {heading}")?;
     let subject = ScriptLine::of(heading);
     match subject.verb {
-        "lives" => inputs::play_lives(rt, steps),
-        "outs" => inputs::play_outs(rt, steps),
+        "connection_states" => inputs::play_connection_states(rt, steps),
+        "written_frames" => inputs::play_written_frames(rt, steps),
         "chance" => kits::play_chance(rt, u64::from(subject.number()), steps),
         "fields" => kits::play_fields(rt, steps),
         "streams" => kits::play_streams(rt, steps),

@@ -26,7 +26,7 @@ use std::alloc::Global;
 use std::io;
 use std::sync::Wait;
 use std::thread::Threads;
-use tally::{Relays, Tally};
+use tally::{Relays, ReportCounts};
 
 /// Runs each kind.
 pub fn run_all<R: Threads + Wait + Sync + Print>(rt: &R, alloc: Global) -> io::Result<()> {
@@ -147,7 +147,7 @@ fn listen<R: Threads + Wait + Sync + Print>(rt: &R, alloc: Global) -> io::Result
 
 /// The exchange, where one of both is gone behind any octet.
 fn vanish<R: Threads + Wait + Sync + Print>(rt: &R, alloc: Global) -> io::Result<()> {
-    let mut tally = Tally::NONE;
+    let mut tally = ReportCounts::NONE;
     tally.count_all(rt, alloc, 2, &vanishing(alloc, IN_HASTE)?)?;
     println!(rt; "gone behind any octet: {tally}")
 }
@@ -161,7 +161,7 @@ fn fail<R: Threads + Wait + Sync + Print>(rt: &R, alloc: Global) -> io::Result<(
     };
     let pairs = failing(alloc, pace)?;
     for (workers, name) in [(1, "one worker"), (2, "two workers")] {
-        let mut tally = Tally::NONE;
+        let mut tally = ReportCounts::NONE;
         tally.count_all(rt, alloc, workers, &pairs)?;
         println!(rt; "{name}, each read and each write fails: {tally}")?;
         if workers == 1 {
@@ -173,7 +173,7 @@ fn fail<R: Threads + Wait + Sync + Print>(rt: &R, alloc: Global) -> io::Result<(
 
 /// Clients that speak something else, beside one that keeps to its script.
 fn meet_strangers<R: Threads + Wait + Sync + Print>(rt: &R, alloc: Global) -> io::Result<()> {
-    let mut tally = Tally::NONE;
+    let mut tally = ReportCounts::NONE;
     for script in STRANGERS {
         let pair = two_of(part(script, IN_HASTE), part(CONSUMER, IN_HASTE));
         tally.count_pair(rt, alloc, 2, &pair)?;
@@ -187,7 +187,7 @@ fn take_nothing<R: Threads + Wait + Sync + Print>(rt: &R, alloc: Global) -> io::
         takes: false,
         ..IN_HASTE
     };
-    let mut tally = Tally::NONE;
+    let mut tally = ReportCounts::NONE;
     for (first, second) in [(silent, IN_HASTE), (IN_HASTE, silent), (silent, silent)] {
         tally.count_pair(rt, alloc, 2, &exchanging(first, second))?;
     }

@@ -9,7 +9,7 @@ use std::fmt;
 
 /// How many runs came to what.
 #[derive(Clone, Copy)]
-pub struct Tally {
+pub struct CaptureCounts {
     /// The auditor accepts the capture.
     accepted: u64,
     /// It ends in the middle of a record, and is accepted up to there.
@@ -18,8 +18,8 @@ pub struct Tally {
     others: u64,
 }
 
-impl Tally {
-    pub const NONE: Tally = Tally {
+impl CaptureCounts {
+    pub const NONE: CaptureCounts = CaptureCounts {
         accepted: 0,
         cut: 0,
         others: 0,
@@ -30,8 +30,8 @@ impl Tally {
     /// # Errors
     ///
     /// Where memory is refused outside the server.
-    pub fn of(alloc: Global, pairs: &[Pair]) -> Result<Tally, AllocError> {
-        let mut tally = Tally::NONE;
+    pub fn of(alloc: Global, pairs: &[Pair]) -> Result<CaptureCounts, AllocError> {
+        let mut tally = CaptureCounts::NONE;
         for pair in pairs {
             tally.count(serve_two(alloc, pair, ROOM)?);
         }
@@ -52,9 +52,9 @@ impl Tally {
     }
 }
 
-impl fmt::Display for Tally {
+impl fmt::Display for CaptureCounts {
     fn fmt<W: fmt::Write>(&self, f: &mut fmt::Formatter<W>) -> fmt::Result {
-        let Tally {
+        let CaptureCounts {
             accepted,
             cut,
             others,

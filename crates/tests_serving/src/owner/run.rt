@@ -28,21 +28,21 @@ pub enum Ending {
 /// What a server had when it ended: how many messages came whole, how many of them it still kept, and how many octets waited for
 /// clients.
 #[derive(Clone, Copy)]
-pub struct Left {
+pub struct KeptAtEnd {
     messages: u64,
     kept: usize,
     waiting: u64,
 }
 
-impl Left {
-    const NOTHING: Left = Left {
+impl KeptAtEnd {
+    const NOTHING: KeptAtEnd = KeptAtEnd {
         messages: 0,
         kept: 0,
         waiting: 0,
     };
 
-    fn of(server: &Server<Work, Sheet, Client>) -> Left {
-        Left {
+    fn of(server: &Server<Work, Sheet, Client>) -> KeptAtEnd {
+        KeptAtEnd {
             messages: server.messages(),
             kept: server.kept(),
             waiting: server.waiting(),
@@ -55,7 +55,7 @@ impl Left {
 #[derive(Clone, Copy)]
 pub struct Came {
     pub ending: Ending,
-    pub left: Left,
+    pub left: KeptAtEnd,
     pub verdict: Verdict,
     pub octets: usize,
     took: (u64, u64),
@@ -76,7 +76,7 @@ impl Came {
 impl fmt::Display for Came {
     fn fmt<W: fmt::Write>(&self, f: &mut fmt::Formatter<W>) -> fmt::Result {
         let (first, second) = self.took;
-        let Left {
+        let KeptAtEnd {
             messages,
             kept,
             waiting,
@@ -123,7 +123,7 @@ fn serve_at(
     let writer = Sheet::new(alloc, room);
     let (ending, left, octets) = match Server::new(alloc, rules, pair.limit, writer) {
         Ok(server) => serve(server, first, second),
-        Err(halt) => (Ending::Halted(halt), Left::NOTHING, Vec::new(alloc)),
+        Err(halt) => (Ending::Halted(halt), KeptAtEnd::NOTHING, Vec::new(alloc)),
     };
     Ok(Came {
         ending,
@@ -140,7 +140,7 @@ fn serve(
     mut server: Server<Work, Sheet, Client>,
     first: Client,
     second: Client,
-) -> (Ending, Left, Vec<u8>)
+) -> (Ending, KeptAtEnd, Vec<u8>)
     requires first { (first.at ≡ 0) × (first.taken.items ≡ []) }
     requires second { (second.at ≡ 0) × (second.taken.items ≡ []) }
 {
@@ -148,7 +148,7 @@ fn serve(
         Ok(ending) => ending,
         Err(halt) => Ending::Halted(halt),
     };
-    let left = Left::of(&server);
+    let left = KeptAtEnd::of(&server);
     let Sheet { octets, .. } = server.into_writer();
     (ending, left, octets)
 }

@@ -9,23 +9,23 @@ use std::io;
 
 /// Has the item of each step come, and prints whether an opening, a frame, octets that are none and a loss may come then on its
 /// connection. A step `asked` has none come.
-pub fn play_lives<R: Print + AllocGlobal>(rt: &R, steps: &[&str]) -> io::Result<()> {
-    let mut lives = ConnectionStates::new(rt.alloc());
-    tell_lives(rt, &mut lives, steps)
+pub fn play_connection_states<R: Print + AllocGlobal>(rt: &R, steps: &[&str]) -> io::Result<()> {
+    let mut states = ConnectionStates::new(rt.alloc());
+    tell_connection_states(rt, &mut states, steps)
 }
 
 /// The same.
 ///
-/// It borrows the lives: owned here, their drop would be proved on each way out.
-fn tell_lives<R: Print + AllocGlobal>(
+/// It borrows the states: owned here, their drop would be proved on each way out.
+fn tell_connection_states<R: Print + AllocGlobal>(
     rt: &R,
-    lives: &mut ConnectionStates,
+    states: &mut ConnectionStates,
     steps: &[&str],
 ) -> io::Result<()> {
     for line in steps {
         let step = ScriptLine::of(line);
-        come(rt.alloc(), lives, &step)?;
-        println!(rt; "{line}: {:?}", answers(lives, step.number()))?;
+        come(rt.alloc(), states, &step)?;
+        println!(rt; "{line}: {:?}", answers(states, step.number()))?;
     }
     Ok(())
 }
@@ -33,12 +33,12 @@ fn tell_lives<R: Print + AllocGlobal>(
 /// Has the item of a step come, if it has one.
 fn come(
     alloc: Global,
-    lives: &mut ConnectionStates,
+    states: &mut ConnectionStates,
     step: &ScriptLine<'_>,
 ) -> Result<(), AllocError> {
     let octets = step.octets(alloc);
     match item_of(step, octets.as_slice()) {
-        Some(item) => lives.come(item),
+        Some(item) => states.come(item),
         None => Ok(()),
     }
 }
@@ -55,21 +55,21 @@ fn item_of<'a>(step: &ScriptLine<'_>, octets: &'a [u8]) -> Option<Item<'a>> {
 }
 
 /// Whether an opening, a frame, octets that are none and a loss may come on the connection.
-fn answers(lives: &ConnectionStates, connection: u32) -> [bool; 4] {
+fn answers(states: &ConnectionStates, connection: u32) -> [bool; 4] {
     [
-        lives.may_come(Item::Opened(connection)),
-        lives.may_come(Item::In(connection, &[])),
-        lives.may_come(Item::Broken(connection)),
-        lives.may_come(Item::Lost(connection)),
+        states.may_come(Item::Opened(connection)),
+        states.may_come(Item::In(connection, &[])),
+        states.may_come(Item::Broken(connection)),
+        states.may_come(Item::Lost(connection)),
     ]
 }
 
 /// Records come one by one; with a step `known` it is known where their frames stand, and with a step `there` they stand with the
 /// others. Prints for each step `next CONNECTION NUMBER` the first frame of the connection from that record on.
-pub fn play_outs<R: Print + AllocGlobal>(rt: &R, steps: &[&str]) -> io::Result<()> {
+pub fn play_written_frames<R: Print + AllocGlobal>(rt: &R, steps: &[&str]) -> io::Result<()> {
     let alloc = rt.alloc();
     let mut written = Written {
-        outs: WrittenFrames::new(alloc),
+        frames: WrittenFrames::new(alloc),
         records: Vec::new(alloc),
         more: Vec::new(alloc),
     };
@@ -79,7 +79,7 @@ pub fn play_outs<R: Print + AllocGlobal>(rt: &R, steps: &[&str]) -> io::Result<(
 /// Records that stand there, more that came, and where the frames that are known stand.
 #[derive(Drop)]
 struct Written {
-    outs: WrittenFrames,
+    frames: WrittenFrames,
     records: Vec<Record>,
     more: Vec<Record>,
 }
@@ -91,11 +91,11 @@ impl Written {
             let step = ScriptLine::of(line);
             match step.verb {
                 "opened" | "out" => self.more.push(record_of(rt.alloc(), &step)?)?,
-                "known" => self.outs.extend(self.records.len() as u64, &self.more)?,
+                "known" => self.frames.extend(self.records.len() as u64, &self.more)?,
                 "there" => self.records.append(&mut self.more)?,
                 _ => {
                     let from = u64::from(step.count());
-                    let next = self.outs.next(&self.records, step.number(), from);
+                    let next = self.frames.next(&self.records, step.number(), from);
                     println!(rt; "{line}: {next:?}")?;
                 }
             }

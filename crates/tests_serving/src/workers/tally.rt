@@ -12,15 +12,15 @@ use std::thread::Threads;
 
 /// How many runs came to a report whose capture the auditor accepts, and how many did not.
 #[derive(Clone, Copy)]
-pub struct Tally {
+pub struct ReportCounts {
     accepted: u64,
     others: u64,
     /// How many devices failed in those that are accepted.
     failures: u64,
 }
 
-impl Tally {
-    pub const NONE: Tally = Tally {
+impl ReportCounts {
+    pub const NONE: ReportCounts = ReportCounts {
         accepted: 0,
         others: 0,
         failures: 0,
@@ -84,7 +84,7 @@ impl Tally {
     }
 }
 
-impl fmt::Display for Tally {
+impl fmt::Display for ReportCounts {
     fn fmt<W: fmt::Write>(&self, f: &mut fmt::Formatter<W>) -> fmt::Result {
         write!(f, "{} accepted, {} others", self.accepted, self.others)
     }
