@@ -1,9 +1,9 @@
 //! The verdicts on what grows.
 
-ghost use Rattle.std.specs.Prelude.{◌≡◌, IfSome};
+ghost use Rattle.std.specs.Prelude.{◌≡◌, IfSome, None};
 ghost use Rattle.trace_clauses.specs.declared.tally.Tally.{Tally};
 ghost use Rattle.audit_core.specs.declared.verdict.Verdict.TheVariants.{Accepted};
-ghost use Rattle.audit_core.specs.Verdict.{AnswersRead, IsKept};
+ghost use Rattle.audit_core.specs.Verdict.{AnswersRead, AreRefused, IsKept};
 
 use crate::followed::Followed;
 use crate::growing::Growing;
@@ -42,7 +42,7 @@ where
     audit_growing(alloc, GrowingFile::new(clock, file, patience))
 }
 
-/// The verdict of `audit_growing_file`, by an auditor that forgets, if it has one (`audit_forgetting`).
+/// The verdict of `audit_growing_file`, by an auditor that forgets; `None` where a record breaks a clause (`audit_forgetting`).
 pub(crate) fn audit_growing_forgetting<C: Clock, R: Read>(
     clock: &C,
     alloc: Global,
@@ -51,7 +51,9 @@ pub(crate) fn audit_growing_forgetting<C: Clock, R: Read>(
 ) -> Option<Verdict>
 where
     R: Drop,
-    ensures { IfSome result (λ verdict. IfSome (R.remaining file) (λ octets. AnswersRead octets verdict)) }
+    ensures answers { IfSome result (λ verdict. IfSome (R.remaining file) (λ octets. AnswersRead octets verdict)) }
+    ensures kept { IfSome result (λ verdict. IfSome (R.remaining file) (λ octets. (tally : Tally) → verdict ≡ Accepted tally → IsKept octets)) }
+    ensures refused { result ≡ None → IfSome (R.remaining file) AreRefused }
 {
     audit_forgetting(
         alloc,

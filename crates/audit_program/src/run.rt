@@ -3,6 +3,7 @@ ghost use Rattle.std.specs.Prelude.{◌≡◌, ◌≢◌, ◌<◌, ◌≤◌, �
 ghost use Rattle.program_ends.specs.Growth.{IsRefusedGrowth};
 ghost use Rattle.audit_core.specs.declared.verdict.Verdict.TheVariants.{NoMemory, Unreadable};
 ghost use Rattle.audit_core.specs.Report.{status_of};
+ghost use Rattle.audit_core.specs.Verdict.{AreRefused};
 ghost use Rattle.audit_program.specs.Run.{IsRunOn, IsStatus, IsVerdictOnInput, Tells, TellsInput, TellsSome};
 ghost use Rattle.program_ends.specs.InputSource.{path_of};
 
@@ -87,12 +88,13 @@ fn verdict_on_file<C: Clock, F: Read + Seek>(
         return verdict;
     }
     match file.rewind() {
-        Ok(()) => verdict_up_to(clock, alloc, end, file),
+        // What was refused is there already, so nothing is waited for.
+        Ok(()) => verdict_up_to(clock, alloc, End::First, file),
         Err(_) => Verdict::Unreadable(0),
     }
 }
 
-/// The verdict on what the reader gives up to this end, by an auditor that forgets, if it has one.
+/// The verdict on what the reader gives up to this end, by an auditor that forgets; `None` where a record breaks a clause.
 fn verdict_forgetting<C: Clock, R: Read>(
     clock: &C,
     alloc: Global,
@@ -101,7 +103,8 @@ fn verdict_forgetting<C: Clock, R: Read>(
 ) -> Option<Verdict>
 where
     R: Drop,
-    ensures { IfSome result (IsVerdictOnInput (R.remaining reader)) }
+    ensures answers { IfSome result (IsVerdictOnInput (R.remaining reader)) }
+    ensures refused { result ≡ None → IfSome (R.remaining reader) AreRefused }
 {
     match end {
         End::First => audit_forgetting(alloc, reader),
