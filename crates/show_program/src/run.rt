@@ -15,7 +15,7 @@ use crate::marked::write_marked;
 use crate::packets::write_packets;
 use crate::table::Table;
 use crate::telling::{NO_FILE, NO_LINK, TOO_MANY, tell};
-use crate::why::show_why;
+use crate::why::{show_why, show_why_of_file};
 use crate::words::{Mode, Words};
 use capture_words::{Ending, NotWritten, Page, View, show_capture};
 use program_ends::{InputSource, NOT_WRITTEN, WORDS_FAULT, is_refused_growth, tell_refused_words};
@@ -145,7 +145,8 @@ fn ending_unopened(error: &io::Error) -> Ending
     }
 }
 
-/// Shows a capture that is read from a file, as `show_input` does; curves in memory that does not grow with a lawful capture.
+/// Shows a capture that is read from a file, as `show_input` does; curves, and why it is not accepted, in memory that does not grow
+/// with a lawful capture.
 fn show_file<F: Files, I: Read + Seek, O: Write, E: Write>(
     files: &F,
     alloc: Global,
@@ -176,6 +177,10 @@ where
         Mode::Credit(path) => {
             let mut file = file;
             write_credit_of_file(files, alloc, words, path, &mut file, out)
+        }
+        Mode::Why => {
+            let mut file = file;
+            show_why_of_file(alloc, &mut file, out)
         }
         _ => show_input(files, alloc, words, mode, is_watched, file, out, err),
     }
