@@ -1,3 +1,4 @@
+pub mod Entries
 pub mod Moves
 pub mod Octets
 mod Examples

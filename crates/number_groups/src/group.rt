@@ -2,12 +2,13 @@
 
 ghost use Rattle.std.specs.Prelude.{◌≡◌, ℕ, ◌∷◌, [], IfOk, OnOk, OnErr, cond, true, false, length, nat_eq, slice_get};
 ghost use Rattle.std.specs.List.{IsDistinct};
+ghost use Rattle.indexmap.specs.IndexMap.{keys};
 ghost use Rattle.number_groups.specs.Numbers.{is_among, members};
 
-use indexmap::IndexSet;
+use indexmap::IndexMap;
 use std::alloc::{AllocError, Global};
 
-/// The numbers of one key. Most groups have one number, which takes no memory beside its key; one that had more keeps its set
+/// The numbers of one key. Most groups have one number, which takes no memory beside its key; one that had more keeps its map
 /// until it has none.
 #[doc(hidden)]
 #[derive(Drop)]
@@ -15,7 +16,7 @@ pub enum Group {
     /// This number alone.
     One(u64),
     /// Any numbers.
-    Many(IndexSet<u64>),
+    Many(IndexMap<u64, ()>),
 }
 
 impl Group {
@@ -30,7 +31,7 @@ impl Group {
     {
         match self {
             Group::Many(numbers) => {
-                numbers.insert(number)?;
+                numbers.insert(number, ())?;
             }
             Group::One(first) => {
                 let first = *first;
@@ -52,7 +53,7 @@ impl Group {
             }
             Group::One(first) => {
                 if *first == number {
-                    *self = Group::Many(IndexSet::new(alloc));
+                    *self = Group::Many(IndexMap::new(alloc));
                 }
             }
         }
@@ -63,7 +64,7 @@ impl Group {
         ensures { result ≡ is_among (members self.now) number }
     {
         match self {
-            Group::Many(numbers) => numbers.contains(&number),
+            Group::Many(numbers) => numbers.contains_key(&number),
             Group::One(first) => number == *first,
         }
     }
@@ -84,23 +85,26 @@ impl Group {
         ensures { result ≡ slice_get (members self.now) index }
     {
         match self {
-            Group::Many(numbers) => numbers.get_index(index).copied(),
+            Group::Many(numbers) => {
+                let (number, _) = numbers.get_index(index)?;
+                Some(*number)
+            }
             Group::One(first) if index == 0 => Some(*first),
             Group::One(_) => None,
         }
     }
 }
 
-/// The set of two numbers.
+/// The map whose keys are two numbers.
 ///
 /// # Errors
 ///
 /// Memory was refused.
-fn set_of(alloc: Global, first: u64, second: u64) -> Result<IndexSet<u64>, AllocError>
-    ensures { IfOk result (λ numbers. (n : ℕ) → is_among numbers.keys n ≡ cond (nat_eq second n) true (is_among (first ∷ []) n)) }
+fn set_of(alloc: Global, first: u64, second: u64) -> Result<IndexMap<u64, ()>, AllocError>
+    ensures { IfOk result (λ numbers. (n : ℕ) → is_among (keys numbers) n ≡ cond (nat_eq second n) true (is_among (first ∷ []) n)) }
 {
-    let mut numbers = IndexSet::with_capacity(alloc, 2)?;
-    numbers.insert(first)?;
-    numbers.insert(second)?;
+    let mut numbers = IndexMap::with_capacity(alloc, 2)?;
+    numbers.insert(first, ())?;
+    numbers.insert(second, ())?;
     Ok(numbers)
 }

@@ -58,7 +58,10 @@ impl NumberSet {
         ensures len { length self.new + (if is_some result then 1 else 0) ≡ length self.old }
     {
         match &mut self.group {
-            Some(Group::Many(numbers)) => numbers.pop(),
+            Some(Group::Many(numbers)) => {
+                let (number, _) = numbers.pop()?;
+                Some(number)
+            }
             Some(Group::One(number)) => {
                 let number = *number;
                 self.group = None;
