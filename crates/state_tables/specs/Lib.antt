@@ -3,6 +3,7 @@ pub mod Connections
 pub mod Links
 pub mod HeldAddress
 pub mod LinkTables
+pub mod OwnOctets
 pub mod HeldViews
 pub mod EndedLinks
 pub mod Entries

@@ -4,14 +4,11 @@ ghost use Rattle.std.specs.Prelude.{◌≡◌, IfOk};
 ghost use Rattle.state_tables.specs.HeldViews.{held_link_view};
 ghost use Rattle.trace_values.specs.View.{link_view};
 
+use crate::own_octets::OwnOctets;
 use amqp_perf::Role;
-use smallvec::SmallVec;
 use std::alloc::{AllocError, Global};
 use trace_events::Session;
 use trace_values::Link;
-
-/// An address of so many octets stands with its link, and takes no memory of its own.
-const USUAL_OCTETS: usize = 40;
 
 /// A link with an address of its own.
 #[doc(hidden)]
@@ -19,7 +16,7 @@ const USUAL_OCTETS: usize = 40;
 pub struct HeldLink {
     number: u64,
     session: Session,
-    address: SmallVec<u8, USUAL_OCTETS>,
+    address: OwnOctets,
     handle: u32,
     our_first_count: u32,
     their_first_count: u32,
@@ -36,7 +33,7 @@ impl HeldLink {
     pub fn new(alloc: Global, link: &Link) -> Result<HeldLink, AllocError>
         ensures { IfOk result (λ own. held_link_view own ≡ link_view link.now) }
     {
-        let address = SmallVec::from_slice(alloc, link.address)?;
+        let address = OwnOctets::of(alloc, link.address)?;
         Ok(HeldLink {
             number: link.number,
             session: link.session,
@@ -58,7 +55,7 @@ impl HeldLink {
             session: self.session,
             handle: self.handle,
             role: self.role,
-            address: &self.address,
+            address: self.address.octets(),
             is_pre_settled: self.is_pre_settled,
             our_first_count: self.our_first_count,
             their_first_count: self.their_first_count,

@@ -6,7 +6,8 @@
 //! - `connections`: all of them;
 //! - `handle`: a handle of a live session, with its link (`counted_link`) and the client's attach (`held_attach`); `handles`:
 //!   those of a session; `channels`: those of a connection; `links`: all of them; `ended_links`: those that an event ends;
-//! - `held_link`: the link of a delivery that is kept;
+//! - `held_link`: the link of a delivery that is kept; `own_octets`: its address, which stands in place where it is short
+//!   (`in_place`);
 //! - `gathered`: numbers that come into a set, as those of the deliveries that an event may touch;
 //! - `answers`, `link_answers`: what they answer to the questions of `trace_judge`.
 //!
@@ -34,9 +35,11 @@ mod handle;
 mod handles;
 mod held_attach;
 mod held_link;
+mod in_place;
 mod link_answers;
 mod links;
 mod on_channels;
+mod own_octets;
 mod receivers;
 mod unanswered;
 
