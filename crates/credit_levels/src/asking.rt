@@ -14,7 +14,7 @@ use crate::pick::{Pick, PickedLink};
 use capture_form::{Record, RuleSet};
 use credit_chart::Level;
 use trace_judge::{Counts, Inputs};
-use trace_values::{Link, Moment};
+use trace_values::{Link, moment_of};
 
 /// The link that stands at a place, if it lives.
 pub(crate) fn link_at<'a, P: Inputs<'a>>(past: &P, place: PickedLink) -> Option<Link<'a>>
@@ -62,7 +62,7 @@ fn opened<'a, P: Inputs<'a>>(
     ensures { (rules : RuleSet) (history : Events) → P.stands_for past.now rules history →
         result ≡ spec.opened pick.now number entry.now.connection (moment_of entry.now.what) history }
 {
-    let moment = Moment::of(&entry.what);
+    let moment = moment_of(&entry.what);
     let place = pick.attached(number, entry.connection, &moment)?;
     is_consumers(link_at(past, place)).then_some(place)
 }

@@ -2,7 +2,6 @@
 
 use crate::frame::Frame;
 use amqp_perf::{Role, Transfer};
-use capture_form::What;
 use pairing_cert::Note;
 use trace_events::{Fault, Session};
 
@@ -85,25 +84,6 @@ pub struct Event<'a, 'r, 'm> {
     pub is_heard: bool,
     /// The fault of a heard frame.
     pub fault: Option<Fault>,
-}
-
-impl<'a> Moment<'a> {
-    ghost use Rattle.std.specs.Prelude.{◌≡◌};
-    ghost use Rattle.trace_events.specs.History.{moment_of};
-    ghost use Rattle.trace_values.specs.View.{moment_view};
-
-    /// What happened, with the octets of its frame read.
-    pub fn of(what: &'a What) -> Moment<'a>
-        ensures { moment_view result ≡ moment_of what.now }
-    {
-        match what {
-            What::Opened => Moment::Opened,
-            What::In(frame) => Moment::In(Frame::read(frame.octets())),
-            What::Out(frame) => Moment::Out(Frame::read(frame.octets())),
-            What::Lost => Moment::Lost,
-            What::Broken => Moment::Broken,
-        }
-    }
 }
 
 impl<'a> Incoming<'a> {

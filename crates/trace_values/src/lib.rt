@@ -36,5 +36,5 @@ pub use frame::{Body, Frame, Spoken};
 pub use incoming::goes_on;
 pub use link::{address_at, opens_link, their_first_count};
 pub use outgoing::names;
-pub use read_record::ReadRecord;
+pub use read_record::{ReadRecord, moment_of};
 pub use said::{handle_in, is_of_connection};

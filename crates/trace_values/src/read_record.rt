@@ -1,7 +1,12 @@
 //! A record whose frame is read, once for all that ask what it says.
 
+ghost use Rattle.std.specs.Prelude.{◌≡◌};
+ghost use Rattle.trace_events.specs.History as law;
+ghost use Rattle.trace_values.specs.View.{moment_view};
+
 use crate::event::Moment;
-use capture_form::Record;
+use crate::frame::Frame;
+use capture_form::{Record, What};
 use pairing_cert::Note;
 use std::marker::Model;
 
@@ -36,7 +41,7 @@ impl<'m> ReadRecord<'m> {
     {
         ReadRecord {
             entry,
-            moment: Moment::of(&entry.what),
+            moment: moment_of(&entry.what),
         }
     }
 
@@ -59,5 +64,19 @@ impl<'m> ReadRecord<'m> {
         ensures { moment_view result.now ≡ moment_of self.now.what }
     {
         &self.moment
+    }
+}
+
+/// What happened, with the octets of its frame read. It is no function of `Moment`, so that the statements of an event need none
+/// of a record's.
+pub fn moment_of<'a>(what: &'a What) -> Moment<'a>
+    ensures { moment_view result ≡ law.moment_of what.now }
+{
+    match what {
+        What::Opened => Moment::Opened,
+        What::In(frame) => Moment::In(Frame::read(frame.octets())),
+        What::Out(frame) => Moment::Out(Frame::read(frame.octets())),
+        What::Lost => Moment::Lost,
+        What::Broken => Moment::Broken,
     }
 }
