@@ -7,7 +7,8 @@
 //! frame.
 //!
 //! - `gate`, `port`: what is asked of a device, and of a router;
-//! - `engine`: the engine; `engine_state` is where it is, `fault` why it does not go on;
+//! - `engine`: the engine, with `paused`: what is kept of it between two turns without its port; `engine_state` is where it is,
+//!   `fault` why it does not go on;
 //! - `feeding`: what it does with the octets of its client; `taking`: what it takes from its port;
 //! - `output`: octets that wait to be given; `frame_ends`: where the router's open and its close end among them;
 //! - `said`: what a frame says of the connection itself; `silence`: how long a client has heard nothing.

@@ -89,9 +89,10 @@ impl Output {
     {
         if self.given == self.kept.len() {
             self.kept.clear();
-        } else if self.given > 0 {
-            self.kept.drain(..self.given);
+            self.given = 0;
+        } else if let Ok(rest) = self.kept.split_off(self.given) {
+            self.kept = rest;
+            self.given = 0;
         }
-        self.given = 0;
     }
 }

@@ -102,9 +102,10 @@ impl StreamReader {
     {
         if self.taken == self.kept.len() {
             self.kept.clear();
-        } else if self.taken > 0 {
-            self.kept.drain(..self.taken);
+            self.taken = 0;
+        } else if let Ok(rest) = self.kept.split_off(self.taken) {
+            self.kept = rest;
+            self.taken = 0;
         }
-        self.taken = 0;
     }
 }
