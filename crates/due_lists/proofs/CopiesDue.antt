@@ -47,8 +47,8 @@ use Rattle.trace_events.specs.Waiting.{is_of_multicast}
 use Rattle.trace_events.proofs.Along.{and_last}
 use Rattle.trace_clauses.proofs.OneConsumer.{some-and}
 use Rattle.state_tables.specs.ConsumerLinks.{consumer_at}
-use Rattle.due_lists.specs.Lists.{Waits, copy_on, waits}
-use Rattle.due_lists.specs.declared.lists.Lists.{Lists}
+use Rattle.due_lists.specs.UnsentNumbers.{Waits, copy_on, waits}
+use Rattle.due_lists.specs.declared.unsent_numbers.UnsentNumbers.{UnsentNumbers}
 use Rattle.due_lists.specs.Copies.{HasUnsent, IsReady, IsUnsentOn}
 use Rattle.due_lists.specs.declared.copies.UnsentCopies.{UnsentCopies}
 use Rattle.due_lists.proofs.CopiesFollowed.{Have}
@@ -88,7 +88,7 @@ module _ (rules : RuleSet) (past : List Event) (are : AreJudged rules past) wher
         (d.0, record { live = live; found = found-of d.0 d.1.0; unsent = d.1.1 })
 
     -- the first that is listed is the earliest
-    pub first-earliest : (all : Lists) → Have rules all past → IsLiveLink l past → (c : ℕ) → ((other n : ℕ) → copy_on all l.number other ≡ Some n → c ≤ other)
+    pub first-earliest : (all : UnsentNumbers) → Have rules all past → IsLiveLink l past → (c : ℕ) → ((other n : ℕ) → copy_on all l.number other ≡ Some n → c ≤ other)
         → (f : Incoming) → copy_on all l.number c ≡ Some f.number → has_earlier_unsent rules past l f ≡ false
     first-earliest all have live c least f listed =
         none-before (λ (x : Incoming). completed_before x f past && is_unsent rules x l past) (incoming_deliveries past) (λ x there. by x there (is_unsent rules x l past) refl)
@@ -105,7 +105,7 @@ module _ (rules : RuleSet) (past : List Event) (are : AreJudged rules past) wher
         by x there true unsent = ap (λ t. t && true) (later x (record { live = live; found = found-of x there; unsent = unsent }))
 
 -- where none is listed none is unsent
-pub one-unlisted : (rules : RuleSet) (past : List Event) (are : AreJudged rules past) (l : Link) (all : Lists) → Have rules all past → IsLiveLink l past
+pub one-unlisted : (rules : RuleSet) (past : List Event) (are : AreJudged rules past) (l : Link) (all : UnsentNumbers) → Have rules all past → IsLiveLink l past
     → ((c : ℕ) → copy_on all l.number c ≡ None) → has_unsent rules l past ≡ false
 one-unlisted rules past are l all have live none = by (has_unsent rules l past) refl
   where
@@ -118,7 +118,7 @@ one-unlisted rules past are l all have live none = by (has_unsent rules l past) 
         absurd cc
 
 -- one whose copy is listed, and is not unsent, is listed no more
-pub have-passed : (rules : RuleSet) (past : List Event) (are : AreJudged rules past) (l : Link) → IsLiveLink l past → (all : Lists) (copies : ByLink) (c n : ℕ)
+pub have-passed : (rules : RuleSet) (past : List Event) (are : AreJudged rules past) (l : Link) → IsLiveLink l past → (all : UnsentNumbers) (copies : ByLink) (c n : ℕ)
     → ((link other : ℕ) → copy_at copies link other ≡ (if l.number == link && (c == other) then None else copy_on all link other))
     → copy_on all l.number c ≡ Some n → ((d : Incoming) → d.number ≡ n → IsUnsentOn rules l d past → ⊥)
     → Have rules all past → Have rules (record all { copies = copies }) past
@@ -154,7 +154,7 @@ some-of rules past l d h = by (has_unsent rules l past) refl
         ∙ h.unsent
 
 -- without a candidate that may be sent none
-pub have-dropped : (rules : RuleSet) (past : List Event) (all : Lists) (links : CopyCandidates) (completion number : ℕ)
+pub have-dropped : (rules : RuleSet) (past : List Event) (all : UnsentNumbers) (links : CopyCandidates) (completion number : ℕ)
     → ((c n : ℕ) → has links c n ≡ has all.links c n && not (completion == c && (number == n)))
     → ((l : Link) → l.number ≡ number → IsReady rules l past → ⊥) → Have rules all past → Have rules (record all { links = links }) past
 have-dropped rules past all links completion number dropped none have = record {
@@ -195,7 +195,7 @@ held false None window credit none = by (window == 0) (credit == 0) refl refl
         let never : false ≡ true = sym none ∙ (ap (λ b. b && nat_lt 0 window && true) (positive credit there) ∙ ap (λ b. b && true) (positive window here)) in
         absurd cc
 
-pub none-due : (rules : RuleSet) (past : List Event) → AreJudged rules past → (all : Lists) → Have rules all past → ((c n : ℕ) → waits all c n ≡ false) → copies_are_sent rules past ≡ true
+pub none-due : (rules : RuleSet) (past : List Event) → AreJudged rules past → (all : UnsentNumbers) → Have rules all past → ((c n : ℕ) → waits all c n ≡ false) → copies_are_sent rules past ≡ true
 none-due rules past are all have none =
     all-each (λ l. list_all (λ d. not (is_unsent rules d l past) || is_held_back rules past l d) (incoming_deliveries past)) (live_links past)
     (λ l lives. all-each (λ d. not (is_unsent rules d l past) || is_held_back rules past l d) (incoming_deliveries past)
@@ -246,5 +246,5 @@ module _ (rules : RuleSet) (past : List Event) (are : AreJudged rules past) (n :
 
 -- ---- the list
 
-pub have-of : (rules : RuleSet) (copies : UnsentCopies) (past : List Event) → HasUnsent rules copies past → Have rules copies.lists past
+pub have-of : (rules : RuleSet) (copies : UnsentCopies) (past : List Event) → HasUnsent rules copies past → Have rules copies.unsent past
 have-of rules copies past h = record { ranked = h.ranked; listed = h.listed; stands = h.stands; waits = h.waits }

@@ -31,14 +31,14 @@ use Rattle.due_lists.specs.Standing.{grants_window}
 use Rattle.due_lists.proofs.DrainingLinks.{on-link}
 use Rattle.due_lists.proofs.PartsFollowed.{not-ended}
 use Rattle.due_lists.proofs.StandingParts.{window-before}
-use Rattle.due_lists.specs.Lists.{IsCompletion, IsIn, IsKept, IsKeptBut, IsOfBoth, Waits, copy_on, receives, stands, waits}
-use Rattle.due_lists.specs.declared.lists.Lists.{Lists}
+use Rattle.due_lists.specs.UnsentNumbers.{IsCompletion, IsIn, IsKept, IsKeptBut, IsOfBoth, Waits, copy_on, receives, stands, waits}
+use Rattle.due_lists.specs.declared.unsent_numbers.UnsentNumbers.{UnsentNumbers}
 use Rattle.due_lists.specs.Copies.{IsUnsentOn}
 use Rattle.due_lists.proofs.UnsentSteps.{IsComing, coming, was, not-named, unlinked}
 
 -- what is listed is listed under the record that completed it; each unsent copy is, its link stands with its session, and is a
 -- candidate where it may be sent a delivery
-pub record Have (rules : RuleSet) (all : Lists) (past : List Event) : Type 0 where
+pub record Have (rules : RuleSet) (all : UnsentNumbers) (past : List Event) : Type 0 where
   pub ranked : (link c n : ℕ) → copy_on all link c ≡ Some n → (d : Incoming) → d.number ≡ n → completion d past ≡ Some c
   pub listed : (l : Link) (d : Incoming) → IsUnsentOn rules l d past → (c : ℕ) → completion d past ≡ Some c → copy_on all l.number c ≡ Some d.number
   pub stands : (l : Link) (d : Incoming) → IsUnsentOn rules l d past → stands all l.session.number l.number ≡ true
@@ -63,7 +63,7 @@ all-three false b c p q r = absurd cc
 module _ (rules : RuleSet) (e : Event) (past : List Event) (are : AreJudged rules (e ∷ past)) (lawful : first_broken rules (e ∷ past) ≡ None)
     (ended : List Link) (all : (l : Link) → Contains ended l ↔ IsLiveLink l past × (ends_link l e ≡ true))
     (address : List ℕ) (addressed : IsAddressed e past address) (receivers : List Receiver) (given : AreReceivers rules address e past receivers)
-    (old l₁ l₂ l₃ l₄ new : Lists)
+    (old l₁ l₂ l₃ l₄ new : UnsentNumbers)
     (listed₁ : (link c : ℕ) → has_link ended link ≡ false → copy_on l₁ link c ≡ copy_on old link c)
     (only₁ : (link c n : ℕ) → copy_on l₁ link c ≡ Some n → copy_on old link c ≡ Some n)
     (stood₁ : (session n : ℕ) → has_link ended n ≡ false → stands old session n ≡ true → stands l₁ session n ≡ true)

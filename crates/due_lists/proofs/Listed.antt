@@ -4,10 +4,10 @@ use Rattle.std.specs.List.{list_any, slice_get}
 use Rattle.std.proofs.lemmas.List.Folds.{list_any_more}
 use Rattle.std.proofs.lemmas.Option.{slice_get-get_or}
 use Rattle.state_tables.specs.declared.copies.Receiver.{Receiver}
-use Rattle.due_lists.specs.Lists.{AreWith, IsIn, IsKept, IsKeptBut, Stays, receives}
-use Rattle.due_lists.specs.declared.lists.Lists.{Lists}
+use Rattle.due_lists.specs.UnsentNumbers.{AreWith, IsIn, IsKept, IsKeptBut, Stays, receives}
+use Rattle.due_lists.specs.declared.unsent_numbers.UnsentNumbers.{UnsentNumbers}
 
-pub kept-later : (a b c : Lists) → IsKept a b → IsKept b c → IsKept a c
+pub kept-later : (a b c : UnsentNumbers) → IsKept a b → IsKept b c → IsKept a c
 kept-later a b c first second = record {
   listed = λ link k. second.listed link k ∙ first.listed link k;
   stood = λ session n. second.stood session n ∙ first.stood session n;
@@ -28,20 +28,20 @@ among-more xs i n lt is = elim (either (list_any (nat_eq n) (take i xs)) (nat_eq
 
 -- ---- one delivery to the links of its receivers, one after the other
 
-pub kept_but-later : (completion : ℕ) (a b c : Lists) → IsKeptBut completion a b → IsKeptBut completion b c → IsKeptBut completion a c
+pub kept_but-later : (completion : ℕ) (a b c : UnsentNumbers) → IsKeptBut completion a b → IsKeptBut completion b c → IsKeptBut completion a c
 kept_but-later completion a b c first second = record {
   listed = λ link k other. second.listed link k other ∙ first.listed link k other;
   stood = λ session n is. second.stood session n (first.stood session n is);
   waited = λ k n is. second.waited k n (first.waited k n is);
 }
 
-pub with-later : (completion number : ℕ) (a b c : Lists) → AreWith completion number a b → AreWith completion number b c → AreWith completion number a c
+pub with-later : (completion number : ℕ) (a b c : UnsentNumbers) → AreWith completion number a b → AreWith completion number b c → AreWith completion number a c
 with-later completion number a b c first second link k n is = elim (second link k n is) [
   | inl was ↦ first link k n was
   | inr own ↦ inr own
 ]
 
-pub in-later : (session link completion n : ℕ) (a b : Lists) → IsKeptBut completion a b → Stays completion n a b → IsIn a session link completion n → IsIn b session link completion n
+pub in-later : (session link completion n : ℕ) (a b : UnsentNumbers) → IsKeptBut completion a b → Stays completion n a b → IsIn a session link completion n → IsIn b session link completion n
 in-later session link completion n a b kept stays there = record {
   listed = stays link there.listed;
   stands = kept.stood session link there.stands;

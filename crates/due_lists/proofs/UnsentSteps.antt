@@ -35,7 +35,7 @@ use Rattle.state_tables.specs.declared.copies.Receiver.{Receiver}
 use Rattle.due_lists.proofs.DrainingLinks.{event-link, link-unused}
 use Rattle.due_lists.proofs.LiveOnes.{link-before, link-found}
 use Rattle.due_lists.proofs.PartsDue.{consumer-found}
-use Rattle.due_lists.specs.Lists.{receives}
+use Rattle.due_lists.specs.UnsentNumbers.{receives}
 use Rattle.due_lists.specs.Copies.{IsUnsentOn}
 
 same_some : {A : Type 0} (a b : A) → Some a ≡ Some b → a ≡ b

@@ -11,7 +11,7 @@ use Rattle.trace_values.specs.View.{link_view, incoming_view}
 use Rattle.state_tables.specs.Copies.{AreCopies}
 use Rattle.state_incoming.specs.EntryAnswers.{Knows}
 use Rattle.state_incoming.specs.declared.deliveries.Deliveries.{Deliveries}
-use Rattle.due_lists.specs.Lists.{Waits, copy_on, stands}
+use Rattle.due_lists.specs.UnsentNumbers.{Waits, copy_on, stands}
 use Rattle.due_lists.specs.declared.begin.DueBegin.{DueBegin}
 use Rattle.due_lists.specs.declared.copies.UnsentCopies.{UnsentCopies}
 
@@ -25,10 +25,10 @@ pub record IsUnsentOn (rules : RuleSet) (l : Link) (d : Incoming) (past : List E
 -- candidate where it may be sent a delivery
 pub record HasUnsent (rules : RuleSet) (copies : UnsentCopies) (past : List Event) : Type 0 where
   pub are : AreCopies rules copies.copies past
-  pub ranked : (link c n : ℕ) → copy_on copies.lists link c ≡ Some n → (d : Incoming) → d.number ≡ n → completion d past ≡ Some c
-  pub listed : (l : Link) (d : Incoming) → IsUnsentOn rules l d past → (c : ℕ) → completion d past ≡ Some c → copy_on copies.lists l.number c ≡ Some d.number
-  pub stands : (l : Link) (d : Incoming) → IsUnsentOn rules l d past → stands copies.lists l.session.number l.number ≡ true
-  pub waits : (l : Link) (d : Incoming) → IsUnsentOn rules l d past → may_take past l ≡ true → Waits copies.lists l.number
+  pub ranked : (link c n : ℕ) → copy_on copies.unsent link c ≡ Some n → (d : Incoming) → d.number ≡ n → completion d past ≡ Some c
+  pub listed : (l : Link) (d : Incoming) → IsUnsentOn rules l d past → (c : ℕ) → completion d past ≡ Some c → copy_on copies.unsent l.number c ≡ Some d.number
+  pub stands : (l : Link) (d : Incoming) → IsUnsentOn rules l d past → stands copies.unsent l.session.number l.number ≡ true
+  pub waits : (l : Link) (d : Incoming) → IsUnsentOn rules l d past → may_take past l ≡ true → Waits copies.unsent l.number
 
 -- the earliest unsent copy of a consumer's live link that may be sent a delivery
 pub record IsDueCopy (rules : RuleSet) (copy : DueBegin) (past : List Event) : Type 0 where

@@ -16,5 +16,5 @@ pub mod Waking
 pub mod Waiting
 pub mod CopyCandidates
 pub mod ByLink
-pub mod Lists
+pub mod UnsentNumbers
 pub mod Copies

@@ -16,7 +16,7 @@ ghost use Rattle.state_answers.specs.Effects.{AreEffects};
 ghost use Rattle.due_lists.specs.Copies.{HasUnsent, IsDueCopy, IsKnownCopy, IsReady, IsUnsentOn};
 
 use crate::DueBegin;
-use crate::lists::Lists;
+use crate::unsent_numbers::UnsentNumbers;
 use capture_form::RuleSet;
 use pairing_cert::Note;
 use state_answers::{EventEffects, LentTables};
@@ -32,7 +32,7 @@ pub struct UnsentCopies {
     /// Which they are.
     copies: Copies,
     /// Their numbers.
-    lists: Lists,
+    unsent: UnsentNumbers,
 }
 
 impl UnsentCopies {
@@ -41,11 +41,11 @@ impl UnsentCopies {
         ensures { (rules : RuleSet) → HasUnsent rules result [] }
     {
         let copies = Copies::new(alloc);
-        let lists = Lists::new(alloc);
+        let unsent = UnsentNumbers::new(alloc);
         UnsentCopies {
             alloc,
             copies,
-            lists,
+            unsent,
         }
     }
 
@@ -79,12 +79,12 @@ impl UnsentCopies {
             before.links,
         )?;
         self.copies.take(rules, event, address, ended, &receivers)?;
-        self.lists.end(ended);
-        self.lists.send(event);
-        self.lists
+        self.unsent.end(ended);
+        self.unsent.send(event);
+        self.unsent
             .come(event, &receivers, before.consumer_links, &self.copies)?;
-        self.lists.touch(event)?;
-        self.lists.wake(event)?;
+        self.unsent.touch(event)?;
+        self.unsent.wake(event)?;
         Ok(())
     }
 
@@ -101,11 +101,11 @@ impl UnsentCopies {
         ensures quiet { (past : Events) → TellsOf rules.now tables.now past → HasUnsent rules.now self.old past → result ≡ None →
             copies_are_sent rules.now past ≡ true }
     {
-        while let Some((completion, link)) = self.lists.links.first() {
+        while let Some((completion, link)) = self.unsent.links.first() {
             if let Some(copy) = self.copy_due(link, rules, tables) {
                 return Some(copy);
             }
-            self.lists.links.remove(completion, link);
+            self.unsent.links.remove(completion, link);
         }
         None
     }
@@ -123,7 +123,7 @@ impl UnsentCopies {
         ensures found { (past : Events) → TellsOf rules.now tables.now past → HasUnsent rules.now self.old past → (l : law.Link) → l.number ≡ number →
             IsReady rules.now l past → is_some result ≡ true }
         ensures kept { (past : Events) → TellsOf rules.now tables.now past → HasUnsent rules.now self.old past → HasUnsent rules.now self.new past }
-        ensures links { self.new.lists.links ≡ self.old.lists.links }
+        ensures links { self.new.unsent.links ≡ self.old.unsent.links }
     {
         let link = tables.consumer_links.get(number)?;
         if !may_take(tables, &link) {
@@ -153,13 +153,13 @@ impl UnsentCopies {
             result ≡ None → has_unsent rules.now (link_view link.now) past ≡ false }
         ensures kept { (past : Events) → TellsOf rules.now tables.now past → HasUnsent rules.now self.old past → IsLiveLink (link_view link.now) past →
             HasUnsent rules.now self.new past }
-        ensures links { self.new.lists.links ≡ self.old.lists.links }
+        ensures links { self.new.unsent.links ≡ self.old.unsent.links }
     {
-        while let Some((completion, number)) = self.lists.copies.first(link.number) {
+        while let Some((completion, number)) = self.unsent.copies.first(link.number) {
             if let Some(delivery) = unsent_copy(number, link, rules, tables) {
                 return Some(delivery);
             }
-            self.lists.copies.remove(link.number, completion);
+            self.unsent.copies.remove(link.number, completion);
         }
         None
     }

@@ -25,7 +25,7 @@
 //! Of the copies, of which the one to the link with the lowest number comes first where one delivery has several:
 //!
 //! - `copies`: the list;
-//! - `lists`: the numbers of the copies and of their links;
+//! - `unsent_numbers`: the numbers of the copies and of their links;
 //! - `by_link`: the copies of each link, in the order of their completion;
 //! - `copy_candidates`: the links that may be sent one, in the order of what they are to be sent.
 //!
@@ -43,10 +43,10 @@ mod copies;
 mod copy_candidates;
 mod credits;
 mod drains;
-mod lists;
 mod parts;
 mod picks;
 mod queues;
+mod unsent_numbers;
 mod waiting;
 mod windows;
 

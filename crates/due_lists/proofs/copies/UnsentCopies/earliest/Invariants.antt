@@ -10,7 +10,7 @@ use Rattle.due_lists.proofs.copies.UnsentCopies.earliest.Given as goal
 abbrev pub invariant-loop-completion : goal.invariant-loop-completion
 invariant-loop-completion l =
     ((past : List Event) → TellsOf l.rules l.tables past → HasUnsent l.rules l.fn.self past → IsLiveLink (link_view l.link) past → HasUnsent l.rules l.self past)
-    × (l.self.lists.links ≡ l.fn.self.lists.links)
+    × (l.self.unsent.links ≡ l.fn.self.unsent.links)
 
 abbrev pub decreases-loop-completion : goal.decreases-loop-completion
-decreases-loop-completion l = count_of l.self.lists.copies l.link.number
+decreases-loop-completion l = count_of l.self.unsent.copies l.link.number

@@ -9,4 +9,4 @@ abbrev pub invariant-loop-completion : goal.invariant-loop-completion
 invariant-loop-completion l = (past : List Event) → TellsOf l.rules l.tables past → HasUnsent l.rules l.fn.self past → HasUnsent l.rules l.self past
 
 abbrev pub decreases-loop-completion : goal.decreases-loop-completion
-decreases-loop-completion l = count_of l.self.lists.links
+decreases-loop-completion l = count_of l.self.unsent.links

@@ -11,7 +11,7 @@ use Rattle.state_tables.specs.ConsumerLinks.{consumer_at}
 use Rattle.state_tables.specs.Copies.{AreCopies, AreReceivers}
 use Rattle.state_tables.specs.declared.copies.Receiver.{Receiver}
 use Rattle.state_tables.specs.EndedLinks.{AreEnded, views}
-use Rattle.due_lists.specs.Lists.{IsIn, receives}
+use Rattle.due_lists.specs.UnsentNumbers.{IsIn, receives}
 use Rattle.due_lists.specs.Copies.{IsUnsentOn}
 use Rattle.due_lists.proofs.CopiesFollowed.{have-copies}
 use Rattle.due_lists.proofs.CopiesDue.{have-of}
@@ -37,7 +37,7 @@ returns c = λ records r next addressed tables does first.
     (tables.1.1.1.1.1.0 l.number ∙ at) there.live there.found there.unsent in
     let have = have-copies rules e past ((r, next.0), history-judged rules records) next.1
     (views c.ended-ended.result.now) ended address addressed c.deref-2.result.now (subst Given (sym c.deref-2.ensures.value) given)
-    c.args.self.now.lists c.end.new.self c.send.new.self c.come.new.self c.touch.new.self c.wake.new.self
+    c.args.self.now.unsent c.end.new.self c.send.new.self c.come.new.self c.touch.new.self c.wake.new.self
     c.end.ensures.listed c.end.ensures.only c.end.ensures.stood c.end.ensures.waited
     c.send.ensures.listed c.send.ensures.only c.send.ensures.stood c.send.ensures.waited
     came c.in_ok-come.ensures.only c.in_ok-come.ensures.kept c.in_ok-touch.ensures.own c.in_ok-touch.ensures.carrying c.in_ok-touch.ensures.kept

@@ -7,7 +7,7 @@ never is = absurd cc
 pub returns : goal.returns
 returns c = λ rules. record {
   are = c.new-copies.ensures rules;
-  ranked = λ link n m is. let none = sym (c.new-lists.ensures link n) ∙ is in absurd cc;
+  ranked = λ link n m is. let none = sym (c.new-unsent.ensures link n) ∙ is in absurd cc;
   listed = λ l d h. never h.unsent;
   stands = λ l d h. never h.unsent;
   waits = λ l d h takes. never h.unsent;

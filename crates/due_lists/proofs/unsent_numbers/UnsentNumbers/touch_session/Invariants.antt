@@ -1,8 +1,8 @@
 use Rattle.std.proofs.Common.{◌≡◌, ℕ, Some, true, nat_eq, take}
 use Rattle.std.specs.List.{list_any}
 use Rattle.number_groups.specs.Groups.{numbers}
-use Rattle.due_lists.specs.Lists.{IsKept, Waits, copy_on}
-use Rattle.due_lists.proofs.lists.Lists.touch_session.Given as goal
+use Rattle.due_lists.specs.UnsentNumbers.{IsKept, Waits, copy_on}
+use Rattle.due_lists.proofs.unsent_numbers.UnsentNumbers.touch_session.Given as goal
 
 abbrev pub invariant-loop-index : goal.invariant-loop-index
 invariant-loop-index l =

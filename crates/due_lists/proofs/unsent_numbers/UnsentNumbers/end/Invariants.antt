@@ -1,8 +1,8 @@
 use Rattle.std.proofs.Common.{◌≡◌, ℕ, Some, true, false, take}
 use Rattle.state_tables.specs.EndedLinks.{views}
 use Rattle.state_tables.specs.ConsumerLinks.{has_link}
-use Rattle.due_lists.specs.Lists.{copy_on, stands, waits}
-use Rattle.due_lists.proofs.lists.Lists.end.Given as goal
+use Rattle.due_lists.specs.UnsentNumbers.{copy_on, stands, waits}
+use Rattle.due_lists.proofs.unsent_numbers.UnsentNumbers.end.Given as goal
 
 abbrev pub invariant-loop-link : goal.invariant-loop-link
 invariant-loop-link l =

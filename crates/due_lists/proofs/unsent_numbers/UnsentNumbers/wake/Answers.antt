@@ -2,8 +2,8 @@ use Rattle.std.proofs.Common.{◌≡◌, sym, ap, subst, ◌∙◌, ℕ, Option,
 use Rattle.std.proofs.lemmas.Result.{on_ok_weaker}
 use Rattle.trace_events.specs.declared.session.Session.{Session}
 use Rattle.trace_values.specs.View.{event_view}
-use Rattle.due_lists.specs.Lists.{stands}
-use Rattle.due_lists.proofs.lists.Lists.wake.Goals as goal
+use Rattle.due_lists.specs.UnsentNumbers.{stands}
+use Rattle.due_lists.proofs.unsent_numbers.UnsentNumbers.wake.Goals as goal
 
 same_some : (a b : ℕ) → Some a ≡ Some b → a ≡ b
 same_some a b is = cc

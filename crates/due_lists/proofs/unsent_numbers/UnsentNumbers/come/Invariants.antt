@@ -9,8 +9,8 @@ use Rattle.trace_events.specs.Link.{IsLiveLink}
 use Rattle.trace_values.specs.View.{event_view, incoming_view}
 use Rattle.state_tables.specs.ConsumerLinks.{link_in}
 use Rattle.state_tables.specs.Copies.{AreCopies}
-use Rattle.due_lists.specs.Lists.{AreWith, IsIn, IsKeptBut, receives}
-use Rattle.due_lists.proofs.lists.Lists.come.Given as goal
+use Rattle.due_lists.specs.UnsentNumbers.{AreWith, IsIn, IsKeptBut, receives}
+use Rattle.due_lists.proofs.unsent_numbers.UnsentNumbers.come.Given as goal
 
 abbrev pub invariant-loop-receiver : goal.invariant-loop-receiver
 invariant-loop-receiver l =

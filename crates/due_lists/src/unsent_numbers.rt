@@ -16,7 +16,7 @@ ghost use Rattle.state_tables.specs.EndedLinks.{views};
 ghost use Rattle.state_tables.specs.ConsumerLinks.{has_link, link_in};
 ghost use Rattle.state_tables.specs.Copies.{AreCopies, names_at};
 ghost use Rattle.due_lists.specs.Standing.{grants_window};
-ghost use Rattle.due_lists.specs.Lists.{AreWith, IsIn, IsKept, IsKeptBut, IsOfBoth, Stays, Waits, copy_on, receives, stands, waits};
+ghost use Rattle.due_lists.specs.UnsentNumbers.{AreWith, IsIn, IsKept, IsKeptBut, IsOfBoth, Stays, Waits, copy_on, receives, stands, waits};
 
 use crate::by_link::ByLink;
 use crate::copy_candidates::CopyCandidates;
@@ -28,7 +28,7 @@ use trace_values::{Event, Incoming, Link};
 
 /// The numbers of the copies that may be unsent, and of the links on which they are.
 #[derive(Drop)]
-pub struct Lists {
+pub struct UnsentNumbers {
     /// The deliveries, by the numbers of the links.
     pub copies: ByLink,
     /// The links, by their sessions.
@@ -37,12 +37,12 @@ pub struct Lists {
     pub links: CopyCandidates,
 }
 
-impl Lists {
+impl UnsentNumbers {
     /// No copies.
-    pub fn new(alloc: Global) -> Lists
+    pub fn new(alloc: Global) -> UnsentNumbers
         ensures { (link completion : ℕ) → copy_on result link completion ≡ None }
     {
-        Lists {
+        UnsentNumbers {
             copies: ByLink::new(alloc),
             of_session: Groups::new(alloc),
             links: CopyCandidates::new(alloc),

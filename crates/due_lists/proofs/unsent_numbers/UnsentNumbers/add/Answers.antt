@@ -1,8 +1,8 @@
 use Rattle.std.proofs.Common.{◌≡◌, refl, ap, ◌∙◌, ◌&&◌, ◌||◌, true, Some, if◌then◌else◌, ◌==◌, nat_eq, eq-eqb}
 use Rattle.number_groups.specs.Groups.{is_member}
 use Rattle.due_lists.specs.ByLink.{copy_at}
-use Rattle.due_lists.specs.Lists.{copy_on}
-use Rattle.due_lists.proofs.lists.Lists.add.Goals as goal
+use Rattle.due_lists.specs.UnsentNumbers.{copy_on}
+use Rattle.due_lists.proofs.unsent_numbers.UnsentNumbers.add.Goals as goal
 
 pub returns-clause-added : goal.returns-clause-added
 returns-clause-added c =

@@ -2,7 +2,7 @@ use Rattle.std.proofs.Common.{◌≡◌, sym, subst, inl, inr, ℕ, Some}
 use Rattle.trace_values.specs.View.{event_view, incoming_view}
 use Rattle.state_tables.specs.ConsumerLinks.{link_in}
 use Rattle.due_lists.proofs.Listed.{in-later, kept_but-later, receives-more, with-later}
-use Rattle.due_lists.proofs.lists.Lists.come.Goals as goal
+use Rattle.due_lists.proofs.unsent_numbers.UnsentNumbers.come.Goals as goal
 
 pub loop-receiver-preserved : goal.loop-receiver-preserved
 loop-receiver-preserved c =
