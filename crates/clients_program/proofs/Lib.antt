@@ -1,3 +1,3 @@
 pub mod Small
 pub mod Greetings
-pub mod Tallies
+pub mod Counted

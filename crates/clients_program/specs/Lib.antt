@@ -1,5 +1,5 @@
 pub mod Said
 pub mod Greeting
 pub mod Outcomes
-pub mod Tally
+pub mod Counts
 pub mod Run

@@ -2,12 +2,12 @@
 
 ghost use Rattle.std.specs.Prelude.{◌≡◌, ◌<◌, IfOk, length};
 ghost use Rattle.clients_program.specs.Greeting.{decisions};
-ghost use Rattle.clients_program.specs.Tally.{IsWhole};
+ghost use Rattle.clients_program.specs.Counts.{IsWhole};
 
 use crate::client::Client;
+use crate::counts::ExchangeCounts;
 use crate::fault::Fault;
 use crate::greeting::word;
-use crate::tally::Tally;
 use crate::{consumer, opening, producer};
 use amqp_perf::Outcome;
 use std::alloc::Global;
@@ -15,14 +15,14 @@ use std::io::{Read, Write};
 
 /// Lets so many messages go from the producer to the consumer, and what was decided back. Writes a line for each to
 /// `out`.
-#[tactic(auto, using(crate::proofs::Tallies::tally_whole, crate::proofs::Tallies::decisions_long))]
+#[tactic(auto, using(crate::proofs::Counted::counts_whole, crate::proofs::Counted::decisions_long))]
 pub fn exchange<S: Read + Write, O: Write>(
     alloc: Global,
     consumer: &mut Client<S>,
     producer: &mut Client<S>,
     count: u8,
     out: &mut O,
-) -> Result<Tally, Fault>
+) -> Result<ExchangeCounts, Fault>
     ensures { IfOk result (IsWhole count) }
 {
     // A producer is given credit once there is a consumer.
@@ -37,11 +37,11 @@ pub fn exchange<S: Read + Write, O: Write>(
     be_told(producer, &decided, out)?;
     opening::close(producer)?;
     opening::close(consumer)?;
-    Ok(Tally::of(count, &decided))
+    Ok(ExchangeCounts::of(count, &decided))
 }
 
 /// The consumer hears and decides all messages: how each of them.
-#[tactic(auto, using(crate::proofs::Tallies::decisions_more))]
+#[tactic(auto, using(crate::proofs::Counted::decisions_more))]
 fn hear_all<S: Read + Write, O: Write>(
     alloc: Global,
     client: &mut Client<S>,

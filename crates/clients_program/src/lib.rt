@@ -16,13 +16,14 @@
 //! - `client`: a connection, on which frames are said and heard
 //! - `opening`: what each client says first and last
 //! - `consumer`, `producer`: what each of them says between
-//! - `tally`: how many messages there were
+//! - `counts`: how many messages there were
 //! - `exchange`: the two of them, step by step
 //! - `run`: connecting, and how it ended
 #![tactic(auto)]
 
 mod client;
 mod consumer;
+mod counts;
 pub mod exchange;
 mod fault;
 mod greeting;
@@ -30,10 +31,9 @@ mod opening;
 mod producer;
 mod run;
 mod said;
-mod tally;
 mod words;
 
 pub use client::Client;
+pub use counts::ExchangeCounts;
 pub use fault::{Fault, Wanted};
 pub use run::run_words;
-pub use tally::Tally;

@@ -3,9 +3,9 @@
 ghost use Rattle.clients_program.specs.Run.{IsStatus};
 
 use crate::client::Client;
+use crate::counts::ExchangeCounts;
 use crate::exchange::exchange;
 use crate::fault::Fault;
-use crate::tally::Tally;
 use crate::words::{Task, USAGE};
 use program_ends::{WORDS_FAULT, tell_line};
 use std::alloc::Global;
@@ -41,7 +41,7 @@ pub fn run_words<R: Net + Clock, O: Write>(
         return tell_line(&USAGE, WORDS_FAULT, out);
     };
     match made(rt, alloc, &task, out) {
-        Ok(tally) => tell_line(&tally, 0, out),
+        Ok(counts) => tell_line(&counts, 0, out),
         Err(fault) => tell_line(&fault, UNFINISHED, out),
     }
 }
@@ -52,7 +52,7 @@ fn made<R: Net + Clock, O: Write>(
     alloc: Global,
     task: &Task,
     out: &mut O,
-) -> Result<Tally, Fault> {
+) -> Result<ExchangeCounts, Fault> {
     let mut consumer = Client::new(alloc, connected(rt, task)?);
     let mut producer = Client::new(alloc, connected(rt, task)?);
     exchange(alloc, &mut consumer, &mut producer, task.count, out)

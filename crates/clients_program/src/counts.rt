@@ -8,21 +8,21 @@ use std::fmt;
 
 /// How many messages were sent, and what became of them.
 #[derive(Clone, Copy, Debug, PartialEq, Eq)]
-pub struct Tally {
+pub struct ExchangeCounts {
     pub sent: usize,
     pub arrived: usize,
     pub accepted: usize,
     pub rejected: usize,
 }
 
-impl Tally {
-    ghost use Rattle.clients_program.specs.Tally.{tally_of};
+impl ExchangeCounts {
+    ghost use Rattle.clients_program.specs.Counts.{counts_of};
 
     /// So many messages were sent, and those that arrived were decided so.
-    pub fn of(sent: u8, decided: &[Outcome]) -> Tally
-        ensures { result ≡ tally_of sent decided.now }
+    pub fn of(sent: u8, decided: &[Outcome]) -> ExchangeCounts
+        ensures { result ≡ counts_of sent decided.now }
     {
-        Tally {
+        ExchangeCounts {
             sent: usize::from(sent),
             arrived: decided.len(),
             accepted: decided
@@ -52,11 +52,11 @@ fn is_rejected(outcome: &Outcome) -> bool
 }
 
 /// The line that tells them, without its newline.
-impl fmt::Display for Tally {
+impl fmt::Display for ExchangeCounts {
     ghost use Rattle.std.specs.Prelude.{Some};
-    ghost use Rattle.clients_program.specs.Tally.{tally_line};
+    ghost use Rattle.clients_program.specs.Counts.{counts_line};
 
-    ghost output = { λ tally. Some (tally_line tally) };
+    ghost output = { λ counts. Some (counts_line counts) };
 
     fn fmt<W: fmt::Write>(&self, f: &mut fmt::Formatter<W>) -> fmt::Result {
         let (sent, arrived) = (self.sent, self.arrived);

@@ -8,7 +8,7 @@ use Rattle.amqp_perf.specs.declared.descriptor.Outcome.{Outcome}
 use Rattle.amqp_perf.specs.declared.descriptor.Outcome.TheVariants.{Accepted, Rejected}
 use Rattle.clients_program.specs.Greeting.{decision, decisions}
 use Rattle.clients_program.specs.Outcomes.{is_accepted, is_rejected}
-use Rattle.clients_program.specs.Tally.{tally_of, IsWhole}
+use Rattle.clients_program.specs.Counts.{counts_of, IsWhole}
 
 pub decisions_long : (count : ℕ) → length (decisions count) ≡ count
 decisions_long zero = refl
@@ -44,6 +44,6 @@ decided_is (suc n) =
       one_is (eqb (suc n % 3) 0),
     )
 
--- the tally of an exchange in which each message was decided
-pub tally_whole : (count : ℕ) → IsWhole count (tally_of count (decisions count))
-tally_whole count = record { sent = refl; arrived = decisions_long count; decided = decided_is count; rejected = rejected_is count }
+-- the counts of an exchange in which each message was decided
+pub counts_whole : (count : ℕ) → IsWhole count (counts_of count (decisions count))
+counts_whole count = record { sent = refl; arrived = decisions_long count; decided = decided_is count; rejected = rejected_is count }
