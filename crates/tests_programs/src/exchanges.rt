@@ -68,8 +68,8 @@ fn exchange_between<R: Files + AllocGlobal>(
     out: &mut Output,
 ) -> io::Result<()> {
     match greet(rt.alloc(), consumer, producer, COUNT, out) {
-        Ok(tally) => {
-            writeln!(out, "{tally}")?;
+        Ok(counts) => {
+            writeln!(out, "{counts}")?;
             tell_heard(rt, "of_consumer.hex", consumer, out)?;
             tell_heard(rt, "of_producer.hex", producer, out)
         }
