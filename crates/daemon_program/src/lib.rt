@@ -7,7 +7,7 @@
 //! nothing on standard output, and status 64; those that it takes and that are wrong have a line and status 64 too.
 //!
 //! In reading order: `words` is what the words of the command line say; `order` is what standard input says; `capture_file` is the
-//! file; `ending` is how a run ended; `serving` is the loop; `run` is a run over any words, input and writers.
+//! file; `ending` is how a run ended; `serve_loop` is the loop; `run` is a run over any words, input and writers.
 //!
 //! Below them stands a router over sockets that stays up: one thread has its listener, its sockets in one poll, and its server
 //! (`SocketServer`). A turn waits for a sign of any socket, takes the connections that have come, and serves a round. A read or a
@@ -27,7 +27,7 @@ mod gate;
 mod notice;
 mod order;
 mod run;
-mod serving;
+mod serve_loop;
 mod socket_server;
 mod sockets;
 mod words;
@@ -35,6 +35,6 @@ mod words;
 pub use fault::Fault;
 pub use gate::SocketGate;
 pub use run::run_words;
-pub use socket_server::{Limits, SocketServer, Tally};
+pub use socket_server::{Limits, ServerCounts, SocketServer};
 pub use sockets::PollSigns;
 pub use words::Words;

@@ -5,7 +5,7 @@ ghost use Rattle.router_words.specs.RunEnd.{IsStatus, TellsSome};
 
 use crate::capture_file::CaptureFile;
 use crate::ending::{outcome_of, outcome_of_halt, outcome_refused};
-use crate::serving::serve_all;
+use crate::serve_loop::serve_all;
 use crate::words::Words;
 use crate::{Fault, Limits, SocketServer};
 use address_table::Rules;
@@ -141,16 +141,16 @@ fn served_by<R: Wait + Clock, F: Write + OpenFile + Drop, I: Read, E: Write>(
 ) -> RunEnd {
     tell_address(err, &server);
     let ended = serve_all(rt, &mut server, heard, words.stats, input, err);
-    let tally = server.tally();
+    let counts = server.counts();
     let file = server.into_writer();
     match ended {
         Ok(()) => RunEnd::Served {
-            connections: tally.connections,
-            records: tally.records,
+            connections: counts.connections,
+            records: counts.records,
         },
         Err(fault) => {
             tell_fault(err, words, &fault, file.said());
-            outcome_of(&fault, tally.records)
+            outcome_of(&fault, counts.records)
         }
     }
 }

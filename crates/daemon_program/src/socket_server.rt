@@ -53,7 +53,7 @@ pub struct Limits {
 
 /// What a router has served so far.
 #[derive(Clone, Copy, Debug, PartialEq, Eq)]
-pub struct Tally {
+pub struct ServerCounts {
     /// Connections that came.
     pub connections: u64,
     /// How many of them have not ended.
@@ -141,8 +141,8 @@ impl<D: Dues + Drop, W: Write + Drop> SocketServer<D, W> {
     }
 
     /// What it has served so far.
-    pub fn tally(&self) -> Tally {
-        Tally {
+    pub fn counts(&self) -> ServerCounts {
+        ServerCounts {
             connections: self.came,
             live: self.server.open(),
             records: self.records,

@@ -3,7 +3,7 @@
 ghost use Rattle.std.specs.Prelude.{◌<◌, length};
 
 use crate::order::Order;
-use crate::{Fault, SocketServer, Tally};
+use crate::{Fault, ServerCounts, SocketServer};
 use daemon_server::Work;
 use std::io::{Read, Write};
 use std::os::fd::RawFd;
@@ -31,11 +31,11 @@ struct Rates {
 
 impl Mark {
     /// What was served until this moment.
-    fn new(moment: u64, tally: &Tally) -> Mark {
+    fn new(moment: u64, counts: &ServerCounts) -> Mark {
         Mark {
             moment,
-            messages: tally.messages,
-            octets: tally.octets,
+            messages: counts.messages,
+            octets: counts.octets,
         }
     }
 
@@ -131,9 +131,9 @@ fn serve_on<R: Wait + Clock, W: Write + Drop, I: Read, E: Write>(
         if seen.watched && hears_end(server, heard, &mut order, input) {
             return Ok(());
         }
-        let tally = server.tally();
-        if let Some(rates) = report.due(&Mark::new(server.now(), &tally)) {
-            tell_tally(&tally, rates, err);
+        let counts = server.counts();
+        if let Some(rates) = report.due(&Mark::new(server.now(), &counts)) {
+            tell_counts(&counts, rates, err);
         }
     }
     unreachable!()
@@ -166,8 +166,8 @@ fn hears_end<W: Write + Drop, I: Read>(
 }
 
 /// Writes a line of what was served.
-fn tell_tally<E: Write>(tally: &Tally, rates: Rates, err: &mut E) {
-    let Tally {
+fn tell_counts<E: Write>(counts: &ServerCounts, rates: Rates, err: &mut E) {
+    let ServerCounts {
         connections,
         live,
         records,
@@ -175,7 +175,7 @@ fn tell_tally<E: Write>(tally: &Tally, rates: Rates, err: &mut E) {
         kept,
         octets: _,
         waiting,
-    } = *tally;
+    } = *counts;
     let Rates {
         messages: each_second,
         octets,
