@@ -111,7 +111,7 @@ impl<J: Before> Port for Desk<J> {
         }
     }
 
-    /// Gives the first frame of the outbox. Its number counts on from the one that is asked for.
+    /// Gives the first frame of the outbox. Its number is the one that is asked for.
     fn next_out(&mut self, from: u64, out: &mut Vec<u8>) -> Result<Option<u64>, AllocError> {
         let Some(frame) = self.outbox.front() else {
             return Ok(None);

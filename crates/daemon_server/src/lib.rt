@@ -12,7 +12,7 @@
 //! In reading order:
 //!
 //! - `before`, `desk`: what stood before a turn, and the desk of a connection in it;
-//! - `serving`: a turn at a desk, in which octets are moved between the engine and its gate;
+//! - `desk_turn`: a turn at a desk, in which octets are moved between the engine and its gate;
 //! - `recording`: a core that writes its capture while it serves;
 //! - `stepping`: it goes through an inbox: each record of it is the next input, in order, and what the router writes is given out;
 //! - `line`: one connection between two turns, and its turn: its gate, its paused engine, what came of its client that the core has
@@ -26,22 +26,22 @@
 
 mod before;
 mod desk;
+mod desk_turn;
 mod halt;
 mod line;
 mod recording;
 mod round;
 mod server;
-mod serving;
 mod stepping;
 mod table;
 
 pub use before::Before;
 pub use desk::Desk;
+pub use desk_turn::{Served, serve_at_desk};
 pub use halt::Halt;
 pub use line::Line;
 pub use recording::RecordingCore;
 pub use route_core::{Dues, Work};
 pub use server::Server;
-pub use serving::{Served, serve_at_desk};
 pub use stepping::{step_entry, step_inbox};
 pub use table::Table;

@@ -11,8 +11,8 @@ ghost use Rattle.daemon_server.specs.Stepping.{HasStepped};
 ghost use Rattle.daemon_server.specs.Lines.{IsLine, frames_to, front_of, inputs_of};
 
 use crate::before::Before;
+use crate::desk_turn::{Served, serve_at_desk};
 use crate::recording::RecordingCore;
-use crate::serving::{Served, serve_at_desk};
 use crate::stepping::step_inbox;
 use capture_form::{Frame, Record};
 use conn_engine::{Gate, PausedEngine, Script, Status, Stop, Turn};

@@ -2,7 +2,7 @@ use Rattle.std.proofs.Common.{ap, ◌∙◌}
 use Rattle.conn_engine.specs.Serving.{Connection}
 use Rattle.conn_engine.specs.Served.{status_after}
 use Rattle.daemon_server.proofs.Turns.{left_at_desk, open_at_desk}
-use Rattle.daemon_server.proofs.serving.serve_at_desk.Goals as goal
+use Rattle.daemon_server.proofs.desk_turn.serve_at_desk.Goals as goal
 
 pub returns-in-Ok-clause-served : goal.returns-in-Ok-clause-served
 returns-in-Ok-clause-served g c =
