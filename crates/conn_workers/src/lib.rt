@@ -7,7 +7,7 @@
 //!
 //! In reading order: `report` is what a run comes to; `line` keeps a gate and its engine, whose octets `conn_engine` moves;
 //! `done` is what is left of a line that has ended; `alarm` tells workers that one has stopped; `work` is what one thread
-//! does; `run` starts them, joins them and makes the report.
+//! does; `run` starts them, joins them and makes the report, with `parts`: gates and seats, apart while the exchange is closed.
 //!
 //! Below them stands a router over sockets: the gates of connections, with one poll for all sockets of a worker, and the workers
 //! of a run, each with the slots that take its connections (`serve`). Each gate is a slot (`ConnectionSlot`) that takes one
@@ -18,7 +18,7 @@
 //!
 //! In reading order: `signs` is what is known of one socket; `connection` is one socket; `refusal` is why a listener gave none;
 //! `millis` is the moment; `failures` counts failed calls; `watch` is the sockets in a poll; `worker_poll` is what a worker's
-//! slots share; `slot` is a gate; `opening` makes the slots of a listener; `serving` runs the workers. The first five serve a
+//! slots share; `slot` is a gate; `opening` makes the slots of a listener; `socket_run` runs the workers. The first five serve a
 //! router of one thread too (`daemon_program`).
 #![tactic(auto)]
 
@@ -32,9 +32,9 @@ mod opening;
 mod refusal;
 mod report;
 mod run;
-mod serving;
 mod signs;
 mod slot;
+mod socket_run;
 mod watch;
 mod work;
 mod worker_poll;
@@ -47,6 +47,6 @@ pub use opening::{open_slots, slots_at};
 pub use refusal::{Refusal, refusal_of};
 pub use report::{ConnReport, RunFault, RunReport, TakenOctets};
 pub use run::run_workers;
-pub use serving::serve;
 pub use signs::Signs;
 pub use slot::ConnectionSlot;
+pub use socket_run::serve;

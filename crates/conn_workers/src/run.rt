@@ -32,7 +32,7 @@ use parts::{apart_all, together};
 /// wait for each other may wait for good.
 ///
 /// No gate was called before. Each worker owns its gates and engines, and takes the lock of the core once for all frames of a
-/// read, and once for those that it is to write; it holds it never while it reads, writes or waits. A gate whose read or write
+/// read, and once for those that it is to write; it never holds it while it reads, writes or waits. A gate whose read or write
 /// fails is no fault of the run: its connection is lost. One whose `ready` answers `Device` ends the run.
 ///
 /// # Errors
