@@ -4,14 +4,14 @@ ghost use Rattle.std.specs.Prelude.{◌≡◌, [], All, IfOk, vec_len};
 
 use crate::gate::{Client, Pace, Post};
 use crate::parted::stream_parted;
-use crate::script::{Script, stream_of};
+use crate::script::{ClientScript, stream_of};
 use std::alloc::{AllocError, Global};
 use std::sync::Arc;
 
 /// What a client says, and how.
 #[derive(Clone, Copy)]
 pub struct Part {
-    pub script: Script,
+    pub script: ClientScript,
     pub pace: Pace,
     /// How many octets of its message stand in the first of two transfers, where the script is that of `RELAY_IN_TWO`.
     pub parted: Option<usize>,

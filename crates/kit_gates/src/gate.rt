@@ -2,7 +2,7 @@
 
 ghost use Rattle.std.specs.Prelude.{◌≡◌, ◌≤◌, ◌+◌, ◌++◌, [], length, take, IfOk};
 
-use crate::script::{Script, Turn};
+use crate::script::{ClientScript, Saying};
 use conn_engine::{Delivered, Gate, Ready, Taken};
 use std::alloc::Global;
 use std::sync::Arc;
@@ -59,7 +59,7 @@ pub struct Client {
     stream: Vec<u8>,
     /// How many octets of the stream it said.
     at: usize,
-    script: Script,
+    script: ClientScript,
     pace: Pace,
     taken: Vec<u8>,
     /// So many reads in a row brought nothing.
@@ -101,7 +101,7 @@ impl Client {
     pub fn new(
         alloc: Global,
         stream: Vec<u8>,
-        script: Script,
+        script: ClientScript,
         pace: Pace,
         mine: Arc<Post, Global>,
         theirs: Arc<Post, Global>,
@@ -154,7 +154,7 @@ impl Client {
     /// How many octets it may have said by now.
     fn allowed(&self) -> usize {
         let others = self.theirs.taken.load(Ordering::SeqCst);
-        let all = allowed(self.script.turns, self.taken.len(), others);
+        let all = allowed(self.script.sayings, self.taken.len(), others);
         all.min(self.pace.vanishes)
     }
 
@@ -263,14 +263,14 @@ impl Gate for Client {
     ghost follows_on = { λ first second third one two. two ∙ one };
 }
 
-/// How many octets of these turns may have been said by a client that took so many, beside another that took so many.
-fn allowed(turns: &[Turn], taken: usize, others: u64) -> usize {
+/// How many octets of these sayings may have been said by a client that took so many, beside another that took so many.
+fn allowed(sayings: &[Saying], taken: usize, others: u64) -> usize {
     let mut all: usize = 0;
-    for turn in turns {
-        if turn.taken > taken || turn.others as u64 > others {
+    for saying in sayings {
+        if saying.taken > taken || saying.others as u64 > others {
             return all;
         }
-        all = all.saturating_add(turn.octets.len());
+        all = all.saturating_add(saying.octets.len());
     }
     all
 }

@@ -21,6 +21,6 @@ pub use gate::{Client, LOOKS, PATIENCE, Pace, Post};
 pub use pairs::{IN_HASTE, ONE_BY_ONE, Pair, exchanging, failing, part, two_of, vanishing};
 pub use parted::stream_parted;
 pub use script::{
-    AMQP_HEADER, BEGINS_LATE, CONSUMER, MESSAGE, OPENS_LATE, PRODUCER, QUIET, RELAY, RELAY_IN_TWO,
-    RELAYED, STRANGERS, Script, Turn, stream_of,
+    AMQP_HEADER, BEGINS_LATE, CONSUMER, ClientScript, MESSAGE, OPENS_LATE, PRODUCER, QUIET, RELAY,
+    RELAY_IN_TWO, RELAYED, STRANGERS, Saying, stream_of,
 };

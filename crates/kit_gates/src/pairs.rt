@@ -3,7 +3,7 @@
 use crate::captures::RunRules;
 use crate::clients::Part;
 use crate::gate::{LOOKS, Pace};
-use crate::script::{CONSUMER, PRODUCER, Script, stream_of};
+use crate::script::{CONSUMER, ClientScript, PRODUCER, stream_of};
 use std::alloc::{AllocError, Global};
 
 /// More records than any run of two clients has.
@@ -39,7 +39,7 @@ pub struct Pair {
 }
 
 /// A client of a script, at this pace.
-pub fn part(script: Script, pace: Pace) -> Part {
+pub fn part(script: ClientScript, pace: Pace) -> Part {
     Part {
         script,
         pace,
@@ -72,7 +72,7 @@ fn one_of_both(is_first: bool, pace: Pace, other: Pace) -> Pair {
 }
 
 /// The script of the first or the second.
-fn script_of(is_first: bool) -> Script {
+fn script_of(is_first: bool) -> ClientScript {
     if is_first { PRODUCER } else { CONSUMER }
 }
 

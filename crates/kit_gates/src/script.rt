@@ -4,7 +4,7 @@ use std::alloc::{AllocError, Global};
 
 /// Octets that a client says as soon as it has taken so many, and the other client has.
 #[derive(Clone, Copy)]
-pub struct Turn {
+pub struct Saying {
     pub octets: &'static [u8],
     pub taken: usize,
     pub others: usize,
@@ -12,49 +12,49 @@ pub struct Turn {
 
 /// All that a client says, and how many octets it takes of the router before it ends.
 #[derive(Clone, Copy)]
-pub struct Script {
-    pub turns: &'static [Turn],
+pub struct ClientScript {
+    pub sayings: &'static [Saying],
     pub wanted: usize,
 }
 
 /// All that a script says, joined.
-pub fn stream_of(alloc: Global, script: Script) -> Result<Vec<u8>, AllocError> {
+pub fn stream_of(alloc: Global, script: ClientScript) -> Result<Vec<u8>, AllocError> {
     let mut stream = Vec::new(alloc);
-    for turn in script.turns {
-        stream.extend_from_slice(turn.octets)?;
+    for saying in script.sayings {
+        stream.extend_from_slice(saying.octets)?;
     }
     Ok(stream)
 }
 
 /// A producer of `q`. It sends its message behind the router's flow, and closes behind the outcome.
-pub const PRODUCER: Script = Script {
-    turns: &[
-        Turn {
+pub const PRODUCER: ClientScript = ClientScript {
+    sayings: &[
+        Saying {
             octets: AMQP_HEADER,
             taken: 0,
             others: 0,
         },
-        Turn {
+        Saying {
             octets: PRODUCER_OPEN,
             taken: 8,
             others: 0,
         },
-        Turn {
+        Saying {
             octets: BEGIN,
             taken: 44,
             others: 0,
         },
-        Turn {
+        Saying {
             octets: PRODUCER_ATTACH,
             taken: 77,
             others: 0,
         },
-        Turn {
+        Saying {
             octets: TRANSFER,
             taken: 155,
             others: 0,
         },
-        Turn {
+        Saying {
             octets: CLOSE,
             taken: 177,
             others: 0,
@@ -64,39 +64,39 @@ pub const PRODUCER: Script = Script {
 };
 
 /// A consumer of `q` with credit for one message. It accepts that, and closes.
-pub const CONSUMER: Script = Script {
-    turns: &[
-        Turn {
+pub const CONSUMER: ClientScript = ClientScript {
+    sayings: &[
+        Saying {
             octets: AMQP_HEADER,
             taken: 0,
             others: 0,
         },
-        Turn {
+        Saying {
             octets: CONSUMER_OPEN,
             taken: 8,
             others: 0,
         },
-        Turn {
+        Saying {
             octets: BEGIN,
             taken: 44,
             others: 0,
         },
-        Turn {
+        Saying {
             octets: CONSUMER_ATTACH,
             taken: 77,
             others: 0,
         },
-        Turn {
+        Saying {
             octets: ONE_CREDIT,
             taken: 116,
             others: 0,
         },
-        Turn {
+        Saying {
             octets: ACCEPTED,
             taken: 148,
             others: 0,
         },
-        Turn {
+        Saying {
             octets: CLOSE,
             taken: 148,
             others: 0,
@@ -107,39 +107,39 @@ pub const CONSUMER: Script = Script {
 
 /// A producer without address. Behind the router's flow, and once the consumer's link stands, it sends a message for `q` and one
 /// that names no address, and it closes behind both outcomes.
-pub const RELAY: Script = Script {
-    turns: &[
-        Turn {
+pub const RELAY: ClientScript = ClientScript {
+    sayings: &[
+        Saying {
             octets: AMQP_HEADER,
             taken: 0,
             others: 0,
         },
-        Turn {
+        Saying {
             octets: PRODUCER_OPEN,
             taken: 8,
             others: 0,
         },
-        Turn {
+        Saying {
             octets: BEGIN,
             taken: 44,
             others: 0,
         },
-        Turn {
+        Saying {
             octets: RELAY_ATTACH,
             taken: 77,
             others: 0,
         },
-        Turn {
+        Saying {
             octets: TO_Q,
             taken: 150,
             others: 116,
         },
-        Turn {
+        Saying {
             octets: TO_NOBODY,
             taken: 150,
             others: 116,
         },
-        Turn {
+        Saying {
             octets: CLOSE,
             taken: 195,
             others: 0,
@@ -149,39 +149,39 @@ pub const RELAY: Script = Script {
 };
 
 /// The same, its message for `q` in two transfers, parted in front of its first octet.
-pub const RELAY_IN_TWO: Script = Script {
-    turns: &[
-        Turn {
+pub const RELAY_IN_TWO: ClientScript = ClientScript {
+    sayings: &[
+        Saying {
             octets: AMQP_HEADER,
             taken: 0,
             others: 0,
         },
-        Turn {
+        Saying {
             octets: PRODUCER_OPEN,
             taken: 8,
             others: 0,
         },
-        Turn {
+        Saying {
             octets: BEGIN,
             taken: 44,
             others: 0,
         },
-        Turn {
+        Saying {
             octets: RELAY_ATTACH,
             taken: 77,
             others: 0,
         },
-        Turn {
+        Saying {
             octets: TO_Q_IN_TWO,
             taken: 150,
             others: 116,
         },
-        Turn {
+        Saying {
             octets: TO_NOBODY,
             taken: 150,
             others: 116,
         },
-        Turn {
+        Saying {
             octets: CLOSE,
             taken: 195,
             others: 0,
@@ -191,39 +191,39 @@ pub const RELAY_IN_TWO: Script = Script {
 };
 
 /// A consumer of `q` that accepts the message of such a producer, and closes.
-pub const RELAYED: Script = Script {
-    turns: &[
-        Turn {
+pub const RELAYED: ClientScript = ClientScript {
+    sayings: &[
+        Saying {
             octets: AMQP_HEADER,
             taken: 0,
             others: 0,
         },
-        Turn {
+        Saying {
             octets: CONSUMER_OPEN,
             taken: 8,
             others: 0,
         },
-        Turn {
+        Saying {
             octets: BEGIN,
             taken: 44,
             others: 0,
         },
-        Turn {
+        Saying {
             octets: CONSUMER_ATTACH,
             taken: 77,
             others: 0,
         },
-        Turn {
+        Saying {
             octets: ONE_CREDIT,
             taken: 116,
             others: 0,
         },
-        Turn {
+        Saying {
             octets: ACCEPTED,
             taken: 159,
             others: 0,
         },
-        Turn {
+        Saying {
             octets: CLOSE,
             taken: 159,
             others: 0,
@@ -233,19 +233,19 @@ pub const RELAYED: Script = Script {
 };
 
 /// It says its begin only when the other client took the router's open, and ends behind the answer.
-pub const BEGINS_LATE: Script = Script {
-    turns: &[
-        Turn {
+pub const BEGINS_LATE: ClientScript = ClientScript {
+    sayings: &[
+        Saying {
             octets: AMQP_HEADER,
             taken: 0,
             others: 0,
         },
-        Turn {
+        Saying {
             octets: PRODUCER_OPEN,
             taken: 8,
             others: 0,
         },
-        Turn {
+        Saying {
             octets: BEGIN,
             taken: 44,
             others: 44,
@@ -255,14 +255,14 @@ pub const BEGINS_LATE: Script = Script {
 };
 
 /// It says nothing until the other client took the router's open, and ends behind the answer to its own.
-pub const OPENS_LATE: Script = Script {
-    turns: &[
-        Turn {
+pub const OPENS_LATE: ClientScript = ClientScript {
+    sayings: &[
+        Saying {
             octets: AMQP_HEADER,
             taken: 0,
             others: 44,
         },
-        Turn {
+        Saying {
             octets: CONSUMER_OPEN,
             taken: 8,
             others: 44,
@@ -272,19 +272,19 @@ pub const OPENS_LATE: Script = Script {
 };
 
 /// It asks for signs of life each second, says its close only when it has heard three of them, and ends behind the answer.
-pub const QUIET: Script = Script {
-    turns: &[
-        Turn {
+pub const QUIET: ClientScript = ClientScript {
+    sayings: &[
+        Saying {
             octets: AMQP_HEADER,
             taken: 0,
             others: 0,
         },
-        Turn {
+        Saying {
             octets: QUIET_OPEN,
             taken: 8,
             others: 0,
         },
-        Turn {
+        Saying {
             octets: CLOSE,
             taken: 68,
             others: 0,
@@ -295,41 +295,41 @@ pub const QUIET: Script = Script {
 
 /// Each says all that it has at once: octets of another protocol; a SASL exchange that chooses PLAIN; a frame that is none; a frame
 /// that is no performative; and nothing at all.
-pub const STRANGERS: [Script; 5] = [
-    Script {
-        turns: &[Turn {
+pub const STRANGERS: [ClientScript; 5] = [
+    ClientScript {
+        sayings: &[Saying {
             octets: b"GET / HTTP/1.1\r\n\r\n",
             taken: 0,
             others: 0,
         }],
         wanted: usize::MAX,
     },
-    Script {
-        turns: &[Turn {
+    ClientScript {
+        sayings: &[Saying {
             octets: b"AMQP\x03\x01\x00\x00\x00\x00\x00\x15\x02\x01\x00\x00\x00\x53\x41\xc0\x08\x01\xa3\x05PLAIN",
             taken: 0,
             others: 0,
         }],
         wanted: usize::MAX,
     },
-    Script {
-        turns: &[Turn {
+    ClientScript {
+        sayings: &[Saying {
             octets: b"AMQP\x00\x01\x00\x00\x00\x00\x00\x07\x01\x02",
             taken: 0,
             others: 0,
         }],
         wanted: usize::MAX,
     },
-    Script {
-        turns: &[Turn {
+    ClientScript {
+        sayings: &[Saying {
             octets: b"AMQP\x00\x01\x00\x00\x00\x00\x00\x0c\x02\x00\x00\x00\xff\xff\xff\xff",
             taken: 0,
             others: 0,
         }],
         wanted: usize::MAX,
     },
-    Script {
-        turns: &[],
+    ClientScript {
+        sayings: &[],
         wanted: usize::MAX,
     },
 ];
