@@ -48,7 +48,7 @@ impl Watcher for Watching<'_> {
         entry: &Record,
     ) -> Result<(), AllocError> {
         let number = ledger.tally().records.saturating_sub(1);
-        self.levels.take(&ledger.looked(), rules, number, entry)
+        self.levels.take(&ledger.lent(), rules, number, entry)
     }
 
     fn refused(

@@ -23,12 +23,12 @@ pub fn explain_refused<'a>(
     // It has what this clause compares, and each number is the law's at this record.
     ensures facts { (records : List Record) → StandsWhole rules.now ledger.now records → IfSome result (IsReasonBehind rules.now records entry.now) }
 {
-    let looked = ledger.looked();
+    let lent = ledger.lent();
     let number = ledger.tally().records;
-    let event = judge_unopened(&looked, rules, number, entry);
+    let event = judge_unopened(&lent, rules, number, entry);
     let contents = Contents {
-        deliveries: looked.deliveries,
-        sent: looked.sent,
+        deliveries: lent.deliveries,
+        sent: lent.sent,
     };
-    explain(&looked, &contents, rules, &event)
+    explain(&lent, &contents, rules, &event)
 }

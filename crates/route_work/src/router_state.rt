@@ -56,10 +56,10 @@ impl<D: Dues> RouterState<D> {
     }
 
     /// The tables, lent.
-    pub fn looked(&self) -> LentTables<'_>
+    pub fn lent(&self) -> LentTables<'_>
         ensures { (rules : RuleSet) (records : List Record) → IsRouterState D.has_all rules self.now records → TellsOf rules result (history rules records) }
     {
-        self.tables.looked()
+        self.tables.lent()
     }
 
     /// How many deliveries from clients were completed; the greatest number where they are more.
@@ -92,7 +92,7 @@ impl<D: Dues> RouterState<D> {
         ensures { OnOk result ((records : List Record) → IsRouterState D.has_all rules.now self.now records → number ≡ length records →
             IsUnbroken rules.now records entry.now → IsLawfulNext rules.now records entry.now (held_event_view held.new (moment_of entry.now.what))) }
     {
-        let lent = self.tables.looked();
+        let lent = self.tables.lent();
         let mut event = judge_unopened(&lent, rules, number, entry);
         open(&lent, &mut event);
         held.keep(self.alloc, &event)
@@ -107,7 +107,7 @@ impl<D: Dues> RouterState<D> {
         ensures { OnOk result ((records : List Record) (r : Record) → IsLawfulNext rules.now records r (event_view event.now) →
             IsRouterState D.has_all rules.now self.old records → IsRouterState D.has_all rules.now self.new (records ++ r ∷ [])) }
     {
-        let lent = self.tables.looked();
+        let lent = self.tables.lent();
         let completed = completed_for(lent.deliveries, event);
         let address = completed.octets();
         let effects = EventEffects::of(self.alloc, event, &lent)?;
@@ -132,7 +132,7 @@ impl<D: Dues> RouterState<D> {
         ensures quiet { (records : List Record) → IsRouterState D.has_all rules.now self.old records →
             IfOk result (λ next. next ≡ None → is_quiet rules.now (history rules.now records) ≡ true) }
     {
-        let lent = self.tables.looked();
+        let lent = self.tables.lent();
         match self.dues.next_due(rules, &lent) {
             Some(due) => Ok(Some(record_of(self.alloc, &lent, rules, &due)?)),
             None => {

@@ -90,7 +90,7 @@ impl Tables {
     }
 
     /// The tables, lent to be asked.
-    pub fn looked(&self) -> LentTables<'_>
+    pub fn lent(&self) -> LentTables<'_>
         ensures stand { (rules : RuleSet) (history : Events) → AreTables rules self.now history →
             StandFor rules result.connections.now result.links.now result.consumers.now result.deliveries.now
             result.consumer_links.now result.copies.now result.sent.now result.verdicts.now history }

@@ -43,7 +43,7 @@ impl Drop for Ledger {
 }
 
 impl Ledger {
-    /// No records, all of which it is to keep what matters of. It takes no memory.
+    /// No records. Of all that come it is to keep what matters, and to let nothing go. It takes no memory.
     pub fn new(alloc: Global) -> Ledger
         ensures stand { (rules : RuleSet) → Stands rules result [] }
         ensures keeps { result.forgets ≡ false }
@@ -92,13 +92,13 @@ impl Ledger {
     }
 
     /// What can be asked of the records so far, lent.
-    pub fn looked(&self) -> LentTables<'_>
+    pub fn lent(&self) -> LentTables<'_>
         ensures stand { (rules : RuleSet) (records : List Record) → Stands rules self.now records →
             StandFor rules result.connections.now result.links.now result.consumers.now result.deliveries.now
             result.consumer_links.now result.copies.now result.sent.now result.verdicts.now (history rules records) }
         ensures whole { (rules : RuleSet) (records : List Record) → Stands rules self.now records → self.now.forgets ≡ false → IsWhole result.deliveries.now }
     {
-        self.tables.looked()
+        self.tables.lent()
     }
 
     /// How many entries its tables have; a delivery to a client is none.
@@ -188,6 +188,6 @@ fn hold_event<'a, 'm: 'a>(
         is_some (broken_behind rules.now records entry.now) ≡ true) }
     ensures same { IfErr result (λ why. why ≢ Memory → held.new ≡ held.old) }
 {
-    let looked = tables.looked();
-    hold_next(held, alloc, &looked, rules, number, entry)
+    let lent = tables.lent();
+    hold_next(held, alloc, &lent, rules, number, entry)
 }

@@ -125,6 +125,6 @@ fn take(
         Err(NotEntered::Memory) => return Err(AllocError),
         Err(NotEntered::Broken(_)) => return Ok(false),
     }
-    levels.take(&ledger.looked(), rules, number, entry)?;
+    levels.take(&ledger.lent(), rules, number, entry)?;
     Ok(true)
 }

@@ -37,7 +37,7 @@ impl<'t> Tables<'t> {
         match line.at(2) {
             "connection" => self.connection(telling, connection),
             "channel" => self.channel(telling, connection, channel),
-            "handle" => match self.ledger.looked().live_session(connection, channel) {
+            "handle" => match self.ledger.lent().live_session(connection, channel) {
                 Some(session) => self.handle(telling, session, line),
                 None => telling.value("session", "-"),
             },
@@ -49,16 +49,16 @@ impl<'t> Tables<'t> {
 
     /// Of a connection: how far it is, and the largest frame that its client takes.
     fn connection(&self, telling: &mut Telling, connection: u32) -> Result<(), AllocError> {
-        let looked = self.ledger.looked();
+        let lent = self.ledger.lent();
         telling.facts(&[
-            ("opened", looked.was_opened(connection)),
-            ("heard-open", looked.has_in_open(connection)),
-            ("written", looked.has_out_frame(connection)),
-            ("over", looked.is_over(connection)),
-            ("finished", looked.was_finished(connection)),
-            ("stopped", looked.was_stopped(connection)),
+            ("opened", lent.was_opened(connection)),
+            ("heard-open", lent.has_in_open(connection)),
+            ("written", lent.has_out_frame(connection)),
+            ("over", lent.is_over(connection)),
+            ("finished", lent.was_finished(connection)),
+            ("stopped", lent.was_stopped(connection)),
         ])?;
-        telling.number("frame", Some(looked.frame_limit(connection)))
+        telling.number("frame", Some(lent.frame_limit(connection)))
     }
 
     /// Of a channel: what its client is owed or owes, its last begin, and the session that is live there.
@@ -68,13 +68,13 @@ impl<'t> Tables<'t> {
         connection: u32,
         channel: u16,
     ) -> Result<(), AllocError> {
-        let looked = self.ledger.looked();
+        let lent = self.ledger.lent();
         telling.facts(&[
-            ("asks", looked.has_unanswered_begin(connection, channel)),
-            ("owes-end", looked.owes_end(connection, channel)),
-            ("awaits-end", looked.awaits_end(connection, channel)),
+            ("asks", lent.has_unanswered_begin(connection, channel)),
+            ("owes-end", lent.owes_end(connection, channel)),
+            ("awaits-end", lent.awaits_end(connection, channel)),
         ])?;
-        let begin = looked.last_in_begin(connection, channel);
+        let begin = lent.last_in_begin(connection, channel);
         telling.numbers(&[
             ("channel", Some(u64::from(channel))),
             (
@@ -86,7 +86,7 @@ impl<'t> Tables<'t> {
                 begin.map(|begin| u64::from(begin.incoming_window)),
             ),
         ])?;
-        match looked.live_session(connection, channel) {
+        match lent.live_session(connection, channel) {
             Some(session) => self.session(telling, session),
             None => telling.value("session", "-"),
         }
@@ -94,20 +94,14 @@ impl<'t> Tables<'t> {
 
     /// Of a session: the record that began it, its windows and its numbers.
     fn session(&self, telling: &mut Telling, session: Session) -> Result<(), AllocError> {
-        let looked = self.ledger.looked();
+        let lent = self.ledger.lent();
         telling.numbers(&[
             ("session", Some(session.number)),
-            ("window", Some(u64::from(looked.session_window(session)))),
-            (
-                "given-window",
-                Some(u64::from(looked.given_window(session))),
-            ),
-            (
-                "next-out",
-                Some(u64::from(looked.next_outgoing_id(session))),
-            ),
-            ("next-in", Some(u64::from(looked.next_incoming_id(session)))),
-            ("next-id", Some(u64::from(looked.next_delivery_id(session)))),
+            ("window", Some(u64::from(lent.session_window(session)))),
+            ("given-window", Some(u64::from(lent.given_window(session)))),
+            ("next-out", Some(u64::from(lent.next_outgoing_id(session)))),
+            ("next-in", Some(u64::from(lent.next_incoming_id(session)))),
+            ("next-id", Some(u64::from(lent.next_delivery_id(session)))),
         ])
     }
 
@@ -118,21 +112,21 @@ impl<'t> Tables<'t> {
         session: Session,
         line: &Words<'_>,
     ) -> Result<(), AllocError> {
-        let looked = self.ledger.looked();
+        let lent = self.ledger.lent();
         let handle = line.number("handle").unwrap_or(0);
         telling.numbers(&[
             ("channel", Some(u64::from(session.channel))),
             ("handle", Some(u64::from(handle))),
         ])?;
         telling.facts(&[
-            ("owes-detach", looked.owes_detach(session, handle)),
-            ("awaits-detach", looked.awaits_detach(session, handle)),
+            ("owes-detach", lent.owes_detach(session, handle)),
+            ("awaits-detach", lent.awaits_detach(session, handle)),
         ])?;
-        match looked.asking(session, handle) {
+        match lent.asking(session, handle) {
             Some(asking) => self.asking(telling, &asking)?,
             None => telling.value("asks", "-")?,
         }
-        match looked.session_link(session, handle) {
+        match lent.session_link(session, handle) {
             Some(link) => self.link(telling, &link),
             None => telling.value("link", "-"),
         }
@@ -153,35 +147,35 @@ impl<'t> Tables<'t> {
 
     /// Of a link: the record that opened it, its address, its counts and its credit.
     fn link(&self, telling: &mut Telling, link: &Link<'_>) -> Result<(), AllocError> {
-        let looked = self.ledger.looked();
+        let lent = self.ledger.lent();
         telling.role(link.role)?;
         telling.value("address", str::from_utf8(link.address).unwrap_or("?"))?;
         telling.facts(&[
-            ("live", looked.is_live(link)),
+            ("live", lent.is_live(link)),
             (
                 "of-consumer",
-                looked.consumer_links.get(link.number).is_some(),
+                lent.consumer_links.get(link.number).is_some(),
             ),
-            ("draining", looked.is_draining(link)),
-            ("unsent", looked.has_unsent(self.rules, link)),
+            ("draining", lent.is_draining(link)),
+            ("unsent", lent.has_unsent(self.rules, link)),
         ])?;
         telling.numbers(&[
             ("link", Some(link.number)),
-            ("credit", Some(u64::from(looked.link_credit(link)))),
-            ("count", Some(u64::from(looked.delivery_count(link)))),
-            ("given-credit", Some(u64::from(looked.given_credit(link)))),
-            ("received", Some(u64::from(looked.received_count(link)))),
-            ("undecided", Some(looked.undecided_count(self.rules, link))),
+            ("credit", Some(u64::from(lent.link_credit(link)))),
+            ("count", Some(u64::from(lent.delivery_count(link)))),
+            ("given-credit", Some(u64::from(lent.given_credit(link)))),
+            ("received", Some(u64::from(lent.received_count(link)))),
+            ("undecided", Some(lent.undecided_count(self.rules, link))),
         ])
     }
 
     /// Of an address: whether a delivery waits there, and its consumers' links in order.
     fn address(&self, telling: &mut Telling, address: &str) -> Result<(), AllocError> {
-        let looked = self.ledger.looked();
+        let lent = self.ledger.lent();
         let octets = address.as_bytes();
         telling.word(address)?;
-        telling.fact("served", looked.has_consumer(octets))?;
-        telling.fact("waiting", looked.has_waiting(self.rules, octets))?;
+        telling.fact("served", lent.has_consumer(octets))?;
+        telling.fact("waiting", lent.has_waiting(self.rules, octets))?;
         let mut consumers = String::new(self.alloc);
         self.put_consumers(&mut consumers, octets)?;
         telling.value("consumers", consumers.as_str())
@@ -189,7 +183,7 @@ impl<'t> Tables<'t> {
 
     /// Puts the consumers' links of an address, in order.
     fn put_consumers(&self, out: &mut String, address: &[u8]) -> Result<(), AllocError> {
-        for place in 0..self.ledger.looked().consumers.count(address) {
+        for place in 0..self.ledger.lent().consumers.count(address) {
             if place > 0 {
                 out.push_str(",")?;
             }
@@ -207,11 +201,11 @@ impl<'t> Tables<'t> {
     ) -> Result<(), AllocError> {
         let number = self
             .ledger
-            .looked()
+            .lent()
             .consumers
             .get(address, place)
             .unwrap_or(0);
-        match self.ledger.looked().consumer_links.get(number) {
+        match self.ledger.lent().consumer_links.get(number) {
             Some(link) if link.address == address => { write!(out, "{number}@{}", link.handle) }
             _ => write!(out, "{number}@?"),
         }
@@ -223,7 +217,7 @@ impl<'t> Tables<'t> {
         let Some(number) = self.names.number(line.at(3)) else {
             return telling.word("unnamed");
         };
-        let Some(held) = self.ledger.looked().deliveries.get(number) else {
+        let Some(held) = self.ledger.lent().deliveries.get(number) else {
             return telling.word("not-kept");
         };
         put_held(telling, held)?;
@@ -241,7 +235,7 @@ impl<'t> Tables<'t> {
     /// The delivery of this name, if it is kept.
     fn kept(&self, name: &str) -> Option<&'t HeldDelivery> {
         let number = self.names.number(name)?;
-        self.ledger.looked().deliveries.get(number)
+        self.ledger.lent().deliveries.get(number)
     }
 }
 

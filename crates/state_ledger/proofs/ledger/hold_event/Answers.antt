@@ -15,18 +15,18 @@ pub returns : goal.returns
 returns c =
     let rules = c.args.rules.now in
     let r = c.args.entry.now in
-    let t = c.looked-looked.result in
+    let t = c.lent-lent.result in
     let held = held_event_view c.hold_next.new.held (moment_of r.what) in
     let answers : Answers rules c.args.tables.now c.args.number r held c.hold_next.result = λ records are whole numbered.
     let past = history rules records in
-    let lent = c.looked-looked.ensures.stand rules past are in
-    c.hold_next.ensures.answer past lent (c.looked-looked.ensures.whole whole) numbered
+    let lent = c.lent-lent.ensures.stand rules past are in
+    c.hold_next.ensures.answer past lent (c.lent-lent.ensures.whole whole) numbered
     (next-carries rules past t.connections.now t.links.now t.consumers.now t.deliveries.now t.consumer_links.now t.copies.now t.sent.now t.verdicts.now lent r)
     (next-opens rules past t.connections.now t.links.now t.consumers.now t.deliveries.now t.consumer_links.now t.copies.now t.sent.now t.verdicts.now lent r) in
     let last : AnswersLast rules c.args.tables.now c.args.number r held c.hold_next.result = on-ok c.hold_next.result c.hold_next.ensures.last (λ held_last. λ records are keeps numbered.
     let past = history rules records in
-    let lent = c.looked-looked.ensures.stand rules past are in
-    held_last past lent (c.looked-looked.ensures.last past keeps) numbered
+    let lent = c.lent-lent.ensures.stand rules past are in
+    held_last past lent (c.lent-lent.ensures.last past keeps) numbered
     (next-carries rules past t.connections.now t.links.now t.consumers.now t.deliveries.now t.consumer_links.now t.copies.now t.sent.now t.verdicts.now lent r)
     (next-opens rules past t.connections.now t.links.now t.consumers.now t.deliveries.now t.consumer_links.now t.copies.now t.sent.now t.verdicts.now lent r)) in
     let Breaks : NotEntered → Type 0 = λ why. why ≢ Memory → (records : List Record) → AreTables rules c.args.tables.now (history rules records)
@@ -34,9 +34,9 @@ returns c =
     record {
       broken = on-err {Q = Breaks} c.hold_next.result c.hold_next.ensures.broken (λ why broken. λ not_memory records are keeps numbered.
           let past = history rules records in
-          let lent = c.looked-looked.ensures.stand rules past are in
+          let lent = c.lent-lent.ensures.stand rules past are in
           ap is_some (broken-unopened rules past r)
-          ∙ broken not_memory past lent (c.looked-looked.ensures.last past keeps) numbered
+          ∙ broken not_memory past lent (c.lent-lent.ensures.last past keeps) numbered
           (next-carries rules past t.connections.now t.links.now t.consumers.now t.deliveries.now t.consumer_links.now t.copies.now t.sent.now t.verdicts.now lent r)
           (next-names rules past t.connections.now t.links.now t.consumers.now t.deliveries.now t.consumer_links.now t.copies.now t.sent.now t.verdicts.now lent r));
       lawful = when-lawful rules c.args.tables.now c.args.number r held c.hold_next.result last;

@@ -11,7 +11,7 @@ pub returns : goal.returns
 returns g c = λ records r next stand.
     let rules = c.args.rules.now in
     let past = history rules records in
-    let lent = c.looked-lent.ensures.stand rules past stand.tables in
+    let lent = c.lent-lent.ensures.stand rules past stand.tables in
     let e = event_view c.args.event.now in
     let addressed = subst (IsAddressed e past) (sym c.octets-address.ensures) (c.completed_for-completed.ensures.addressed rules records r next lent.1.1.1.1.0) in
     let does = c.in_ok-effects.ensures rules records r next lent in
