@@ -98,8 +98,8 @@ impl Auditor {
         self.ledger.tally()
     }
 
-    /// How many entries it has: connections of which a record stands; sessions that are live or await their end; links that
-    /// are live or await their detach; begins, attaches, detaches and ends of clients that are still to be answered; and the
+    /// How many entries it has: connections of which more may come, and runs of others that came to the same; sessions that are
+    /// live or await their end; links that are live or await their detach; begins, attaches, detaches and ends of clients that are still to be answered; and the
     /// deliveries from clients that are kept. A delivery to a client is no entry, though one that keeps all keeps it to the end, so
     /// this does not bound the memory. The greatest number where there are more.
     pub fn entries(&self) -> usize

@@ -6,7 +6,7 @@
 //! events were, their numbers are those that the definitions of `flow_counts` count over them, and each call counts one
 //! event more. No call takes memory. `sender_credit_after` and `given_credit_after` count whole lists of events, and
 //! their contracts are that law for all of them. Neither the router nor the auditor stands on this crate: their credits
-//! are in `state_tables`, counted by the same definitions.
+//! are in `state_counts`, counted by the same definitions.
 //!
 //! In reading order: `sender` and `given` keep the counters; `history` counts what happens on a link; `laws` says which
 //! flows change no credit.

@@ -4,7 +4,7 @@
 //! `Window` keeps both as counters. Whatever the session's events were, its numbers are those that the definitions of
 //! `flow_counts` count over them, and each call counts one event more. No call takes memory. `window_after` counts a
 //! whole list of events, and its contract is that law for all of them. Neither the router nor the auditor stands on
-//! this crate: their windows are in `state_tables`, counted by the same definitions.
+//! this crate: their windows are in `state_counts`, counted by the same definitions.
 //!
 //! In reading order: `window` keeps the counters; `history` counts the events of a session.
 #![tactic(auto)]

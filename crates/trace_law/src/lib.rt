@@ -3,7 +3,7 @@
 //! each, the newest first, and each definition is computed anew by the function of the same name, whose contract it is.
 //!
 //! - `past`: the events on the stack, and `scans`, their answers to the questions of `trace_judge`, each by a scan: `session`, with `connection` and `window`; `link`, with `credit` and `address`; `delivery`, with `incoming`,
-//!   `outgoing`, `payload`, `waiting`, `due`, `verdicts` and `settling`;
+//!   `outgoing`, `payload`, `message`, `waiting`, `due`, `verdicts` and `settling`;
 //! - `ask`: `slow_check`, `window_at`, `credit_at`, `waiting_at` and `best_verdict_at` (`check`) answer what the law says at one
 //!   record,
 //!   `tally_capture` (`tally`) what a capture holds, in one walk over the records (`walk`).
