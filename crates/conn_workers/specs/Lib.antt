@@ -6,5 +6,4 @@ pub use Rattle.conn_engine.specs.Streams
 pub use Rattle.conn_engine.specs.Served
 pub use Rattle.core_exchange.specs.Captures
 pub use Rattle.core_exchange.specs.Seats
-pub mod Moved
 pub mod ServedRuns

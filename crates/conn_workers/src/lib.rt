@@ -16,37 +16,25 @@
 //! and a wait ends at the first sign of any socket. It ends too where a socket of another worker has delivered octets, since the
 //! router may have written frames because of them.
 //!
-//! In reading order: `signs` is what is known of one socket; `connection` is one socket; `refusal` is why a listener gave none;
-//! `millis` is the moment; `failures` counts failed calls; `watch` is the sockets in a poll; `worker_poll` is what a worker's
-//! slots share; `slot` is a gate; `opening` makes the slots of a listener; `socket_run` runs the workers. The first five serve a
-//! router of one thread too (`daemon_program`).
+//! In reading order: `watch` is the sockets in a poll, which are those of `polled_sockets`; `worker_poll` is what a worker's slots
+//! share; `slot` is a gate; `opening` makes the slots of a listener; `socket_run` runs the workers.
 #![tactic(auto)]
 
 mod alarm;
-mod connection;
 mod done;
-mod failures;
 mod line;
-mod millis;
 mod opening;
-mod refusal;
 mod report;
 mod run;
-mod signs;
 mod slot;
 mod socket_run;
 mod watch;
 mod work;
 mod worker_poll;
 
-pub use connection::{Connection, Moved};
 pub use core_exchange::{Exchange, ExchangePort, Seat};
-pub use failures::count_failure;
-pub use millis::moment;
 pub use opening::{open_slots, slots_at};
-pub use refusal::{Refusal, refusal_of};
 pub use report::{ConnReport, RunFault, RunReport, TakenOctets};
 pub use run::run_workers;
-pub use signs::Signs;
 pub use slot::ConnectionSlot;
 pub use socket_run::serve;

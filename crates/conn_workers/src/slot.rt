@@ -2,13 +2,10 @@
 
 ghost use Rattle.std.specs.Prelude.{◌≡◌};
 
-use crate::connection::{Connection, Moved};
-use crate::failures::count_failure;
-use crate::millis::moment;
-use crate::refusal::{Refusal, refusal_of};
 use crate::worker_poll::{WorkerPoll, WorkerPolls};
 use conn_engine::{Delivered, Gate, Ready, Taken};
 use mio::net::{TcpListener, TcpStream};
+use polled_sockets::{Connection, Moved, NoConnection, count_failure, moment, no_connection_of};
 use std::alloc::Global;
 use std::mem;
 use std::sync::{Arc, Mutex, Wait};
@@ -80,19 +77,19 @@ impl<R: Wait> ConnectionSlot<R> {
         drop(listener);
         match accepted {
             Ok((stream, _)) => self.take_in(stream),
-            Err(error) => self.note_refusal(refusal_of(&error)),
+            Err(error) => self.note_none(no_connection_of(&error)),
         }
     }
 
     /// Notes why no connection was accepted.
-    fn note_refusal(&mut self, refusal: Refusal)
+    fn note_none(&mut self, why: NoConnection)
         ensures ended { self.new.ended ≡ self.old.ended }
         ensures failed { self.new.failed ≡ self.old.failed }
     {
-        match refusal {
-            Refusal::Client => {}
-            Refusal::NoneWaits | Refusal::Means => self.poll.none_is_there(),
-            Refusal::Listener => self.is_broken = true,
+        match why {
+            NoConnection::Client => {}
+            NoConnection::NoneWaits | NoConnection::Means => self.poll.none_is_there(),
+            NoConnection::Listener => self.is_broken = true,
         }
     }
 

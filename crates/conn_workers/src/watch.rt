@@ -1,9 +1,9 @@
 //! The poll of a worker's sockets.
 
-use crate::signs::Signs;
 use mio::event::Event;
 use mio::net::{TcpListener, TcpStream};
 use mio::{Events, Interest, Poll, Token, Waker};
+use polled_sockets::Signs;
 use slab::Slab;
 use std::alloc::Global;
 use std::io;

@@ -2,10 +2,10 @@
 
 ghost use Rattle.std.specs.Prelude.{◌≡◌, ◌<◌, vec_len};
 
-use crate::signs::Signs;
 use crate::watch::Watch;
 use mio::Waker;
 use mio::net::{TcpListener, TcpStream};
+use polled_sockets::Signs;
 use std::alloc::Global;
 use std::io;
 use std::net::Net;

@@ -4,7 +4,7 @@ ghost use Rattle.std.specs.Prelude.{◌≡◌};
 
 use crate::notice::Notice;
 use conn_engine::{Delivered, Gate, Ready, Taken};
-use conn_workers::{Connection, Moved, count_failure};
+use polled_sockets::{Connection, Moved, count_failure};
 use std::alloc::Global;
 use std::sync::Arc;
 

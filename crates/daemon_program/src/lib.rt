@@ -36,5 +36,5 @@ pub use fault::Fault;
 pub use gate::SocketGate;
 pub use run::run_words;
 pub use socket_server::{Limits, ServerCounts, SocketServer};
-pub use sockets::PollSigns;
+pub use sockets::WaitSigns;
 pub use words::Words;

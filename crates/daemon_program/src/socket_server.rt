@@ -9,10 +9,10 @@ ghost use Rattle.trace_duties.specs.Turn.{is_ordered};
 
 use crate::fault::Fault;
 use crate::gate::SocketGate;
-use crate::sockets::{PollSigns, Sockets};
-use conn_workers::moment;
+use crate::sockets::{Sockets, WaitSigns};
 use daemon_server::{Dues, Halt, Server};
 use mio::net::{TcpListener, TcpStream};
+use polled_sockets::moment;
 use std::alloc::Global;
 use std::io;
 use std::io::Write;
@@ -180,7 +180,7 @@ impl<D: Dues + Drop, W: Write + Drop> SocketServer<D, W> {
     /// # Errors
     ///
     /// As `Fault` says. Then nothing more is served.
-    pub fn turn(&mut self, clock: &impl Clock, buffer: &mut [u8]) -> Result<PollSigns, Fault>
+    pub fn turn(&mut self, clock: &impl Clock, buffer: &mut [u8]) -> Result<WaitSigns, Fault>
         requires room { 0 < length buffer.old }
     {
         let patience = self.patience();
@@ -281,7 +281,7 @@ impl<D: Dues + Drop, W: Write + Drop> SocketServer<D, W> {
     }
 
     /// Waits so long for a sign, notes all that there are, and tells the gates the moment.
-    fn look(&mut self, clock: &impl Clock, patience: u64) -> Result<PollSigns, Fault> {
+    fn look(&mut self, clock: &impl Clock, patience: u64) -> Result<WaitSigns, Fault> {
         let seen = self.sockets.wait(Duration::from_millis(patience))?;
         self.looks = if seen.any || self.is_signed {
             0

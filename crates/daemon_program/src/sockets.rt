@@ -2,12 +2,12 @@
 
 use crate::gate::SocketGate;
 use crate::notice::Notice;
-use conn_workers::{Connection, Refusal, Signs, refusal_of};
 use daemon_server::{Dues, Halt, Server};
 use mio::event::Event;
 use mio::net::{TcpListener, TcpStream};
 use mio::unix::SourceFd;
 use mio::{Events, Interest, Poll, Token};
+use polled_sockets::{Connection, NoConnection, Signs, no_connection_of};
 use slab::Slab;
 use std::alloc::Global;
 use std::io;
@@ -28,7 +28,7 @@ const WATCHED: Token = Token(usize::MAX - 1);
 
 /// What a wait saw.
 #[derive(Clone, Copy, Debug, PartialEq, Eq)]
-pub struct PollSigns {
+pub struct WaitSigns {
     /// Whether there was any sign.
     pub any: bool,
     /// Whether what is watched beside the sockets may be read.
@@ -130,12 +130,12 @@ impl Sockets {
     /// # Errors
     ///
     /// Where the poll fails.
-    pub(crate) fn wait(&mut self, patience: Duration) -> io::Result<PollSigns> {
+    pub(crate) fn wait(&mut self, patience: Duration) -> io::Result<WaitSigns> {
         self.poll.poll(&mut self.events, Some(patience))?;
         if self.events.iter().any(|event| event.token() == LISTENER) {
             self.may_accept = true;
         }
-        Ok(PollSigns {
+        Ok(WaitSigns {
             any: !self.events.is_empty(),
             watched: self.events.iter().any(|event| event.token() == WATCHED),
         })
@@ -168,13 +168,13 @@ impl Sockets {
             Ok((stream, _)) => return Ok(Some(stream)),
             Err(error) => error,
         };
-        match refusal_of(&error) {
-            Refusal::Client => Ok(None),
-            Refusal::NoneWaits | Refusal::Means => {
+        match no_connection_of(&error) {
+            NoConnection::Client => Ok(None),
+            NoConnection::NoneWaits | NoConnection::Means => {
                 self.may_accept = false;
                 Ok(None)
             }
-            Refusal::Listener => Err(error),
+            NoConnection::Listener => Err(error),
         }
     }
 

@@ -3,14 +3,14 @@
 ghost use Rattle.std.specs.Prelude.{◌≡◌, ◌↔◌};
 ghost use Rattle.std.specs.IoError.{error_kind};
 ghost use Rattle.std.specs.declared.io.ErrorKind.TheVariants.{WouldBlock};
-ghost use Rattle.conn_workers.specs.declared.refusal.Refusal.TheVariants.{NoneWaits};
+ghost use Rattle.polled_sockets.specs.declared.no_connection.NoConnection.TheVariants.{NoneWaits};
 
 use std::io;
 use std::io::ErrorKind;
 
 /// Why a listener gave no connection.
 #[derive(Clone, Copy, Debug, PartialEq, Eq)]
-pub enum Refusal {
+pub enum NoConnection {
     /// What befell a client that is gone already, or the network between: no fault of the listener.
     Client,
     /// None waits.
@@ -22,19 +22,19 @@ pub enum Refusal {
 }
 
 /// Why a listener that answered so gave no connection.
-pub fn refusal_of(error: &io::Error) -> Refusal
+pub fn no_connection_of(error: &io::Error) -> NoConnection
     ensures { (result ≡ NoneWaits) ↔ (error_kind error.now ≡ WouldBlock) }
 {
     match error.kind() {
-        ErrorKind::WouldBlock => Refusal::NoneWaits,
+        ErrorKind::WouldBlock => NoConnection::NoneWaits,
         ErrorKind::ConnectionAborted
         | ErrorKind::ConnectionReset
         | ErrorKind::TimedOut
         | ErrorKind::Interrupted
         | ErrorKind::HostUnreachable
         | ErrorKind::NetworkUnreachable
-        | ErrorKind::NetworkDown => Refusal::Client,
-        _ => refusal_by(error.raw_os_error()),
+        | ErrorKind::NetworkDown => NoConnection::Client,
+        _ => no_connection_by(error.raw_os_error()),
     }
 }
 
@@ -62,14 +62,14 @@ const NOT_SUPPORTED: i32 = 95;
 const HOST_DOWN: i32 = 112;
 
 /// The same of any other error, by its number.
-fn refusal_by(number: Option<i32>) -> Refusal
+fn no_connection_by(number: Option<i32>) -> NoConnection
     ensures { (result ≡ NoneWaits) → ⊥ }
 {
     match number {
-        Some(NO_MEMORY | TOO_MANY_IN_ALL | TOO_MANY_HERE | NO_BUFFERS) => Refusal::Means,
+        Some(NO_MEMORY | TOO_MANY_IN_ALL | TOO_MANY_HERE | NO_BUFFERS) => NoConnection::Means,
         Some(
             NOT_ALLOWED | NO_NETWORK | PROTOCOL_FAILED | NO_SUCH_OPTION | NOT_SUPPORTED | HOST_DOWN,
-        ) => { Refusal::Client }
-        _ => Refusal::Listener,
+        ) => { NoConnection::Client }
+        _ => NoConnection::Listener,
     }
 }

@@ -1,7 +1,7 @@
 //! One socket of a poll.
 
 ghost use Rattle.std.specs.Prelude.{length};
-ghost use Rattle.conn_workers.specs.Moved.{IsWithin};
+ghost use Rattle.polled_sockets.specs.Moved.{IsWithin};
 
 use crate::signs::Signs;
 use mio::net::TcpStream;
@@ -40,7 +40,8 @@ impl Connection {
         Connection { stream, key, signs }
     }
 
-    pub(crate) fn key(&self) -> usize {
+    /// Its key in the poll.
+    pub fn key(&self) -> usize {
         self.key
     }
 

@@ -1,7 +1,7 @@
 -- How much a call on a socket moves.
 use Rattle.std.specs.Prelude.{ℕ, ◌≤◌}
-use Rattle.conn_workers.specs.declared.connection.Moved.{Moved}
-use Rattle.conn_workers.specs.declared.connection.Moved.TheVariants.{Octets, Nothing, End, Fault}
+use Rattle.polled_sockets.specs.declared.connection.Moved.{Moved}
+use Rattle.polled_sockets.specs.declared.connection.Moved.TheVariants.{Octets, Nothing, End, Fault}
 
 -- no more octets than there were, or than there was room for
 abbrev pub IsWithin : Moved → ℕ → Type 0
