@@ -1,7 +1,7 @@
 //! The deliveries to consumers that may go on: in progress on live links whose session has window (part 2 of the standard,
 //! sections 2.5.6 and 2.6.14).
 
-ghost use Rattle.std.specs.Prelude.{◌≡◌, ◌∷◌, ◌<◌, ◌^◌, ℕ, List, [], Some, None, IfSome, OnOk, drop, false, is_some, length, nat_eq, option_map, true, if◌then◌else◌, ◌==◌};
+ghost use Rattle.std.specs.Prelude.{◌≡◌, ◌∷◌, ℕ, List, [], Some, None, IfSome, OnOk, false, is_some, nat_eq, option_map, true, if◌then◌else◌, ◌==◌};
 ghost use Rattle.number_groups.specs.Groups.{is_member};
 ghost use Rattle.capture_form.specs.Rules.{RuleSet};
 ghost use Rattle.capture_form.specs.declared.records.Record.{Record};
@@ -23,6 +23,7 @@ use flow_counts::WindowEvent;
 use number_groups::{Ascending, Groups};
 use pairing_cert::Note;
 use state_answers::{EventEffects, LentTables, add_group};
+use state_outgoing::rest_of;
 use std::alloc::{AllocError, Global};
 use trace_judge::{Carriage, Counts};
 use trace_values::{Event, Link};
@@ -169,19 +170,6 @@ fn part_due<'t>(number: u64, tables: &LentTables<'t>) -> Option<DuePart<'t>>
     Some(DuePart {
         link,
         note: delivery.note,
-        rest: behind(payload, tables.sent.sent_count(delivery.number)),
+        rest: rest_of(payload, tables.sent.sent_count(delivery.number)),
     })
-}
-
-/// What of the octets stands behind the first so many.
-fn behind(octets: &[u8], count: u64) -> &[u8]
-    ensures rest { result.now ≡ drop count octets.now }
-    ensures counted { length octets.now < 2 ^ 64 }
-{
-    let start = count as usize;
-    if start < octets.len() {
-        &octets[start..]
-    } else {
-        &[]
-    }
 }

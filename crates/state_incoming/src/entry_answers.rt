@@ -13,10 +13,9 @@ ghost use Rattle.state_incoming.specs.EntryAnswers.{Knows, delivery_in, has_entr
 ghost use Rattle.state_incoming.specs.HeldTables.{AreHeld, held_in};
 
 use crate::deliveries::Deliveries;
-use crate::held::is_multicast;
 use capture_form::RuleSet;
 use pairing_cert::Note;
-use trace_values::Incoming;
+use trace_values::{Incoming, has_multicast};
 
 impl Deliveries {
     /// The delivery of a client that begins in the record of this number, where the table can tell of it.
@@ -74,7 +73,7 @@ impl Deliveries {
         ensures { (history : Events) → AreHeld rules.now self.now history → Knows self.now (incoming_view delivery.now) →
             result ≡ waiting.is_of_multicast rules.now (incoming_view delivery.now) history }
     {
-        is_multicast(rules, self.held_for(delivery.number))
+        has_multicast(rules, self.held_for(delivery.number))
     }
 
     /// What has come of its payload.

@@ -9,7 +9,6 @@ ghost use Rattle.trace_events.specs.Said.{in_spoken};
 ghost use Rattle.trace_events.specs.Outgoing as sent;
 ghost use Rattle.trace_events.specs.Waiting as fates;
 ghost use Rattle.trace_events.specs.Settling.{is_closed};
-ghost use Rattle.trace_events.specs.Address.{has_multicast};
 ghost use Rattle.trace_events.specs.History.{history};
 ghost use Rattle.trace_clauses.specs.Clauses.{first_broken};
 ghost use Rattle.trace_clauses.specs.Outcome.{may_be_told};
@@ -22,10 +21,10 @@ ghost use Rattle.state_incoming.specs.HeldViews.{held_view};
 ghost use Rattle.state_incoming.specs.LetGo.{is_spent};
 ghost use Rattle.trace_values.specs.View.{Events, incoming_view, event_view};
 
-use capture_form::{Distribution, RuleSet, distribution_of};
+use capture_form::RuleSet;
 use state_tables::HeldLink;
 use std::alloc::{AllocError, Global};
-use trace_values::{Event, Incoming};
+use trace_values::{Event, Incoming, has_multicast};
 
 /// What has become of it.
 #[derive(Clone, Copy, Debug, PartialEq, Eq)]
@@ -499,20 +498,13 @@ impl HeldDelivery {
 fn fate_completed(rules: &RuleSet, address: &[u8], has_consumer: bool) -> Fate
     ensures { result ≡ kept.fate_completed rules.now address.now has_consumer }
 {
-    if is_multicast(rules, address) {
+    if has_multicast(rules, address) {
         Fate::Copied
     } else if has_consumer {
         Fate::Waiting
     } else {
         Fate::Gone
     }
-}
-
-/// What comes to the address goes to all its consumers.
-pub(crate) fn is_multicast(rules: &RuleSet, address: &[u8]) -> bool
-    ensures { result ≡ has_multicast rules.now address.now }
-{
-    matches!(distribution_of(rules, address), Distribution::Multicast)
 }
 
 /// The address behind the event of the delivery that it begins, where what it completes is for this one.

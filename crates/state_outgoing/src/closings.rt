@@ -7,7 +7,7 @@ ghost use Rattle.state_outgoing.specs.SentAnswers as law;
 ghost use Rattle.state_outgoing.specs.SentTables.{sent_in};
 
 use crate::deliveries::SentDeliveries;
-use crate::earliest::NumberTest;
+use number_groups::NumberTest;
 use pairing_cert::Note;
 
 /// Of which deliveries from clients nothing more is to be told.

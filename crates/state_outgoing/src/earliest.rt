@@ -5,19 +5,7 @@ ghost use Rattle.number_groups.specs.Groups.{numbers};
 ghost use Rattle.trace_events.specs.Words.{where_passes};
 ghost use Rattle.state_outgoing.specs.Earliest as law;
 
-use number_groups::{Groups, NumberKey};
-
-/// A test of records by their numbers.
-pub(crate) trait NumberTest {
-    ghost use Rattle.std.specs.Prelude.{◌≡◌, ℕ, Bool};
-
-    /// Which of them pass.
-    ghost does_pass: { Self → ℕ → Bool };
-
-    /// The record of the number passes.
-    fn passes(&self, number: u64) -> bool
-        ensures { result ≡ Self.does_pass self.now number };
-}
+use number_groups::{Groups, NumberKey, NumberTest};
 
 /// The smaller of two numbers, where both are there.
 fn lesser(one: Option<u64>, other: Option<u64>) -> Option<u64>

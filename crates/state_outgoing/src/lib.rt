@@ -33,4 +33,5 @@ pub use closings::Closings;
 pub use decided::Decided;
 pub use deliveries::SentDeliveries;
 pub use groups::SentGroups;
+pub use payload::rest_of;
 pub use sent::SentDelivery;

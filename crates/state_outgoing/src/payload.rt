@@ -17,7 +17,7 @@ pub(crate) fn goes_on_with(more: bool, payload: &[u8], sent_count: u64, octets: 
 }
 
 /// What is left of the payload behind so many octets.
-fn rest_of(payload: &[u8], sent_count: u64) -> &[u8]
+pub fn rest_of(payload: &[u8], sent_count: u64) -> &[u8]
     ensures rest { result.now ≡ drop sent_count payload.now }
     ensures counted { length payload.now < 2 ^ 64 }
 {

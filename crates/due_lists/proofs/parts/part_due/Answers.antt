@@ -59,7 +59,7 @@ returns-clause-due c = λ rules past are.
     let going : in_progress m past ≡ Some j = sym (c.in_ok-delivery.ensures rules past are found.0) in
     let carried : to_carry rules j.note past ≡ Some d = c.in_ok-carried.ensures.given rules past are.1.1.1.1.0.0 in
     let payload : c.payload-payload.result.now ≡ incoming.payload d past = c.payload-payload.ensures rules past are.1.1.1.1.0.0 (c.in_ok-carried.ensures.known rules past are.1.1.1.1.0.0) in
-    let short : length (incoming.payload d past) < 2 ^ 64 = omega (arith, ap length payload, c.behind.ensures.counted) in
+    let short : length (incoming.payload d past) < 2 ^ 64 = omega (arith, ap length payload, c.rest_of.ensures.counted) in
     let window : nat_lt 0 (session_window m.session past) ≡ true =
     lt-ltb 0 (session_window m.session past) (omega (arith, c.session_window.ensures rules past are found.0.0, c.if-session_window-eq0.false)) in
     let count = c.sent_count.ensures ∙ sent-so-far rules past judged are.1.1.1.1.1.1.1.0 m j going c.args.tables.now.sent.now are.1.1.1.1.1.1.1.1.0 d carried short in
@@ -72,5 +72,5 @@ returns-clause-due c = λ rules past are.
       going = going;
       note = refl;
       named = carried-noted rules past judged are.1.1.1.1.1.1.1.0 m j going d carried;
-      rest = c.behind.ensures.rest ∙ (ap (λ n. drop n c.payload-payload.result.now) count ∙ ap (drop (length (outgoing.payload j past))) payload);
+      rest = c.rest_of.ensures.rest ∙ (ap (λ n. drop n c.payload-payload.result.now) count ∙ ap (drop (length (outgoing.payload j past))) payload);
     }

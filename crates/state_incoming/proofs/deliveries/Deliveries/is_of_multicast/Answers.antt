@@ -6,5 +6,5 @@ use Rattle.state_incoming.proofs.deliveries.Deliveries.is_of_multicast.Goals as 
 
 pub returns : goal.returns
 returns c = λ past are knows.
-    c.is_multicast.ensures
+    c.has_multicast.ensures
     ∙ ap (has_multicast c.args.rules.now) (c.held_for.ensures ∙ known-address c.args.rules.now past c.args.self.now are (incoming_view c.args.delivery.now) knows)
