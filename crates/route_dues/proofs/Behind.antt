@@ -25,7 +25,7 @@ use Rattle.trace_duties.specs.Diligent.{moment_keeps, all_keep}
 use Rattle.trace_duties.proofs.CopyOrder.{copies_in_order-step}
 use Rattle.route_answers.specs.Writing.{frame_of}
 use Rattle.route_dues.specs.Writing.{writing, IsReadAgain, IsLawful, IsInOrder, MayFollow}
-use Rattle.route_dues.proofs.Words.{both}
+use Rattle.route_answers.proofs.Words.{both}
 use Rattle.route_dues.proofs.Connections.{lawful_judged}
 
 abbrev pub written : ℕ → Note → Spoken → Record

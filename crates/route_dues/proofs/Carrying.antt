@@ -25,7 +25,8 @@ use Rattle.trace_duties.specs.Quiet.{has_earlier_unsent}
 use Rattle.trace_duties.specs.Order.{is_earliest}
 use Rattle.trace_duties.proofs.CopyOrder.{earliest-none, earliest-sent}
 use Rattle.trace_duties.specs.Diligent.{is_picked, is_next_waiting, is_picked_link, is_filled, is_filled_transfer}
-use Rattle.route_dues.proofs.Words.{or_right, both, same_bool}
+use Rattle.route_answers.proofs.Words.{or_right, both}
+use Rattle.route_dues.proofs.Words.{same_bool}
 
 -- the delivery may go to the link, whose session has window
 pub record MayCarry (rules : RuleSet) (past : List Event) (l : Link) (d : Incoming) : Type 0 where

@@ -27,7 +27,7 @@ use Rattle.trace_duties.specs.Quiet.{lacks_window}
 use Rattle.trace_duties.specs.Diligent.{is_of_answer, is_owed_flow, is_owed_on, writes}
 use Rattle.route_answers.specs.Writing.{frame_of}
 use Rattle.route_dues.specs.Writing.{writing, IsLawful, MayFollow}
-use Rattle.route_dues.proofs.Words.{or_right, both, same_octets, none_broken}
+use Rattle.route_answers.proofs.Words.{or_right, both, same_octets, none_broken}
 use Rattle.route_dues.proofs.Connections.{may_write}
 use Rattle.route_dues.proofs.Lengths.{flow_short, short_fits}
 

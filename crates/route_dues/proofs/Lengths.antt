@@ -1,8 +1,6 @@
 -- How long frames are: those that are due fit the shortest limit that a client may set.
 use Rattle.std.proofs.Common.{◌≡◌, ℕ, ◌+◌, ◌≤◌, ◌<◌, ◌^◌, true, false, List, ◌∷◌, ◌++◌, length, Option, Some, None, option_map, unwrap_or, arith}
 use Rattle.std.proofs.lemmas.List.{length-append}
-use Rattle.byteorder.specs.Endian.{big_bytes}
-use Rattle.byteorder.specs.Numbers.{length-bytes_high_first}
 use Rattle.amqp_types.specs.Part.{Seen}
 use Rattle.amqp_types.proofs.Shortest.{list_long, uint_long}
 use Rattle.amqp_perf.specs.declared.flow.Flow.{Flow}
@@ -11,27 +9,13 @@ use Rattle.amqp_perf.specs.Router.{settling}
 use Rattle.amqp_perf.specs.Slots.{values_of, octets_of, fields_octets}
 use Rattle.amqp_perf.specs.Writing.{performative_octets, flow_slots, disposition_slots}
 use Rattle.amqp_perf.proofs.Lengths.{fields_long, flag_long, flag_most, uint_most}
-use Rattle.amqp_frames.specs.Writing.{frame_octets, frame_size}
+use Rattle.amqp_frames.specs.Writing.{frame_size}
 use Rattle.flow_counts.specs.declared.profile.TheConstants.{MAX_FRAME_SIZE}
 use Rattle.trace_events.specs.Frame.{Spoken}
 use Rattle.trace_events.specs.Event.{Event}
 use Rattle.trace_events.specs.Connection.{frame_limit, first_open, bounded_limit}
 use Rattle.trace_clauses.specs.Written.{spoken_octets, says}
-
--- ---- frames
-
-pub spoken_long : (spoken : Spoken) → length (spoken_octets spoken) ≡ 8 + (length (performative_octets spoken.meaning) + length spoken.payload)
-unfolding spoken_octets frame_octets
-spoken_long spoken =
-    let body = performative_octets spoken.meaning ++ spoken.payload in
-    omega (
-      arith,
-      length-append (big_bytes 4 (frame_size body)) (2 ∷ 0 ∷ (big_bytes 2 spoken.channel ++ body)),
-      length-append (big_bytes 2 spoken.channel) body,
-      length-append (performative_octets spoken.meaning) spoken.payload,
-      length-bytes_high_first 4 (frame_size body),
-      length-bytes_high_first 2 spoken.channel,
-    )
+use Rattle.route_answers.proofs.Lengths.{spoken_long}
 
 -- ---- the limit
 

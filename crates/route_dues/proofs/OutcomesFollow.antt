@@ -38,8 +38,8 @@ use Rattle.trace_duties.specs.Diligent.{is_of_answer}
 use Rattle.route_answers.specs.Writing.{frame_of}
 use Rattle.route_dues.specs.Writing.{writing, IsLawful, MayFollow}
 use Rattle.route_dues.specs.Outcomes.{octets_in, outcome_frame}
-use Rattle.route_dues.proofs.Words.{or_right, both}
-use Rattle.route_dues.proofs.Words.{none_broken}
+use Rattle.route_answers.proofs.Words.{or_right, both}
+use Rattle.route_answers.proofs.Words.{none_broken}
 use Rattle.route_dues.proofs.Connections.{lawful_judged, may_write}
 use Rattle.route_dues.proofs.OutcomeFits.{outcome_said, row_fits}
 

@@ -24,7 +24,7 @@ use Rattle.trace_duties.specs.Diligent.{is_picked, is_due_frame, is_of_answer, i
 use Rattle.route_answers.specs.Writing.{frame_of}
 use Rattle.route_dues.specs.Writing.{writing, IsLawful, MayFollow}
 use Rattle.route_dues.specs.Transfers.{room_on, first_frame, next_frame}
-use Rattle.route_dues.proofs.Words.{or_right, both, none_broken}
+use Rattle.route_answers.proofs.Words.{or_right, both, none_broken}
 use Rattle.route_dues.proofs.Connections.{may_write}
 use Rattle.route_dues.proofs.Filled.{filled_carries}
 use Rattle.route_dues.proofs.TransferLengths.{filled_fits, first_same, first_short, next_same, next_short}

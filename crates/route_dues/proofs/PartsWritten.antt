@@ -13,7 +13,8 @@ use Rattle.trace_events.specs.Frame.{Spoken}
 use Rattle.trace_clauses.specs.Written.{spoken_octets, first_part}
 use Rattle.route_dues.specs.Writing.{spoken_with, IsReadAgain}
 use Rattle.route_dues.specs.Transfers.{filled_on}
-use Rattle.route_dues.proofs.Lengths.{spoken_long, within}
+use Rattle.route_answers.proofs.Lengths.{spoken_long}
+use Rattle.route_dues.proofs.Lengths.{within}
 use Rattle.route_dues.proofs.TransferLengths.{filled_fits}
 
 module _ (l : Link) (of : Bool → TransferFields) (bare fields : TransferFields) (room m : ℕ) (rest : List ℕ)

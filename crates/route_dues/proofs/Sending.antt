@@ -29,7 +29,7 @@ use Rattle.trace_duties.specs.Order.{CopiesInOrder}
 use Rattle.trace_duties.proofs.PicksInOrder.{kept_in_order, none-before}
 use Rattle.route_dues.specs.Writing.{IsLawful, MayFollow}
 use Rattle.route_dues.specs.Transfers.{first_frame, next_frame}
-use Rattle.route_dues.proofs.Words.{or_left, or_right, both}
+use Rattle.route_answers.proofs.Words.{or_left, or_right, both}
 use Rattle.route_dues.proofs.Connections.{lawful_judged}
 use Rattle.route_dues.proofs.LiveLinks.{live_found, live_lives}
 use Rattle.route_dues.proofs.PartsFollow.{first_follows, next_follows}

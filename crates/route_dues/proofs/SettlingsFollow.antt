@@ -28,7 +28,7 @@ use Rattle.trace_clauses.proofs.WaitingQueue.{all_contained, reverse_has, contai
 use Rattle.trace_duties.specs.Diligent.{is_of_answer}
 use Rattle.route_answers.specs.Writing.{frame_of}
 use Rattle.route_dues.specs.Writing.{writing, IsLawful, MayFollow}
-use Rattle.route_dues.proofs.Words.{or_right, both, same_octets, none_broken}
+use Rattle.route_answers.proofs.Words.{or_right, both, same_octets, none_broken}
 use Rattle.route_dues.proofs.Connections.{lawful_judged, may_write}
 use Rattle.route_dues.proofs.Lengths.{settling_short, short_fits}
 

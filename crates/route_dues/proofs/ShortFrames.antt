@@ -27,7 +27,8 @@ use Rattle.trace_clauses.specs.Written.{spoken_octets, written_transfer, first_p
 use Rattle.route_dues.specs.Writing.{spoken_with, IsReadAgain}
 use Rattle.route_dues.specs.Short.{front_octets, count_with, decided}
 use Rattle.route_dues.proofs.Again.{read_again}
-use Rattle.route_dues.proofs.Lengths.{spoken_long, body_within}
+use Rattle.route_answers.proofs.Lengths.{spoken_long}
+use Rattle.route_dues.proofs.Lengths.{body_within}
 use Rattle.route_dues.proofs.TransferLengths.{first_same, first_sized, tag_sized}
 
 -- ---- read again

@@ -16,7 +16,8 @@ use Rattle.trace_events.specs.Event.{Event, Link}
 use Rattle.trace_events.specs.Connection.{frame_limit}
 use Rattle.trace_clauses.specs.Written.{spoken_octets, written_transfer, first_part, next_part}
 use Rattle.route_dues.specs.Transfers.{room_on, filled_on}
-use Rattle.route_dues.proofs.Lengths.{spoken_long, limit_least}
+use Rattle.route_answers.proofs.Lengths.{spoken_long}
+use Rattle.route_dues.proofs.Lengths.{limit_least}
 
 -- ---- a list, by how long its items are
 

@@ -30,7 +30,7 @@ use Rattle.route_dues.specs.Outcomes.{outcome_frame}
 use Rattle.route_dues.specs.Transfers.{room_on, first_frame, next_frame}
 use Rattle.route_answers.specs.Writing.{frame_of}
 use Rattle.route_dues.specs.Writing.{writing, IsLawful}
-use Rattle.route_dues.proofs.Words.{or_left, or_right, both}
+use Rattle.route_answers.proofs.Words.{or_left, or_right, both}
 use Rattle.route_dues.proofs.Connections.{lawful_judged}
 use Rattle.route_dues.proofs.FlowsFollow.{no_consumer}
 
