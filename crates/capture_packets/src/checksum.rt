@@ -4,7 +4,7 @@ ghost use Rattle.std.specs.Prelude.{◌≡◌, ◌*◌, ◌≤◌, length};
 ghost use Rattle.capture_packets.specs.Headers.{checksum, sum_of_words};
 
 /// The sum of the words of two octets; a last octet alone is the first one of its word.
-pub fn words_of(octets: &[u8]) -> u64
+pub fn sum_of_words(octets: &[u8]) -> u64
     requires { length octets.now ≤ 65535 }
     ensures sum { result ≡ sum_of_words octets.now }
     ensures few { result ≤ 65536 * length octets.now }

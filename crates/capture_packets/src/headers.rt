@@ -4,7 +4,7 @@ ghost use Rattle.std.specs.Prelude.{◌≡◌, ◌≤◌, length};
 ghost use Rattle.capture_packets.specs.Headers.{ip_header, ip_header_with, tcp_header, tcp_header_with, pseudo_header};
 ghost use Rattle.flow_counts.specs.declared.profile.TheConstants.{MAX_FRAME_SIZE};
 
-use crate::checksum::{checksum_of, words_of};
+use crate::checksum::{checksum_of, sum_of_words};
 use crate::segment::Segment;
 use flow_counts::MAX_FRAME_SIZE;
 
@@ -36,7 +36,7 @@ pub fn ip_header_of(segment: Segment, len: u16) -> [u8; IP_HEADER]
     ensures { result ≡ ip_header segment len }
 {
     let bare = ip_octets(0, segment, len);
-    ip_octets(checksum_of(words_of(&bare)), segment, len)
+    ip_octets(checksum_of(sum_of_words(&bare)), segment, len)
 }
 
 /// What the checksum of a segment with so many octets of payload covers beside the segment.
@@ -91,7 +91,10 @@ pub fn tcp_header_of(segment: Segment, payload: &[u8]) -> [u8; TCP_HEADER]
     requires { length payload.now ≤ MAX_FRAME_SIZE }
     ensures { result ≡ tcp_header segment payload.now }
 {
-    let pseudo = words_of(&pseudo_octets(segment, payload.len() as u16));
-    let header = words_of(&tcp_octets(0, segment));
-    tcp_octets(checksum_of(pseudo + header + words_of(payload)), segment)
+    let pseudo = sum_of_words(&pseudo_octets(segment, payload.len() as u16));
+    let header = sum_of_words(&tcp_octets(0, segment));
+    tcp_octets(
+        checksum_of(pseudo + header + sum_of_words(payload)),
+        segment,
+    )
 }

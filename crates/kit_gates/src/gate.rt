@@ -2,7 +2,7 @@
 
 ghost use Rattle.std.specs.Prelude.{◌≡◌, ◌≤◌, ◌+◌, ◌++◌, [], length, take, IfOk};
 
-use crate::script::{ClientScript, Saying};
+use crate::script::{ClientScript, TimedOctets};
 use conn_engine::{Delivered, Gate, Ready, Taken};
 use std::alloc::Global;
 use std::sync::Arc;
@@ -154,7 +154,7 @@ impl Client {
     /// How many octets it may have said by now.
     fn allowed(&self) -> usize {
         let others = self.theirs.taken.load(Ordering::SeqCst);
-        let all = allowed(self.script.sayings, self.taken.len(), others);
+        let all = allowed(self.script.says, self.taken.len(), others);
         all.min(self.pace.vanishes)
     }
 
@@ -263,14 +263,14 @@ impl Gate for Client {
     ghost follows_on = { λ first second third one two. two ∙ one };
 }
 
-/// How many octets of these sayings may have been said by a client that took so many, beside another that took so many.
-fn allowed(sayings: &[Saying], taken: usize, others: u64) -> usize {
+/// How many of these octets may have been said by a client that took so many, beside another that took so many.
+fn allowed(says: &[TimedOctets], taken: usize, others: u64) -> usize {
     let mut all: usize = 0;
-    for saying in sayings {
-        if saying.taken > taken || saying.others as u64 > others {
+    for said in says {
+        if said.taken > taken || said.others as u64 > others {
             return all;
         }
-        all = all.saturating_add(saying.octets.len());
+        all = all.saturating_add(said.octets.len());
     }
     all
 }

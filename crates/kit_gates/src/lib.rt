@@ -22,5 +22,5 @@ pub use pairs::{IN_HASTE, ONE_BY_ONE, Pair, exchanging, failing, part, two_of, v
 pub use parted::stream_parted;
 pub use script::{
     AMQP_HEADER, BEGINS_LATE, CONSUMER, ClientScript, MESSAGE, OPENS_LATE, PRODUCER, QUIET, RELAY,
-    RELAY_IN_TWO, RELAYED, STRANGERS, Saying, stream_of,
+    RELAY_IN_TWO, RELAYED, STRANGERS, TimedOctets, stream_of,
 };

@@ -4,7 +4,7 @@ use std::alloc::{AllocError, Global};
 
 /// Octets that a client says as soon as it has taken so many, and the other client has.
 #[derive(Clone, Copy)]
-pub struct Saying {
+pub struct TimedOctets {
     pub octets: &'static [u8],
     pub taken: usize,
     pub others: usize,
@@ -13,48 +13,48 @@ pub struct Saying {
 /// All that a client says, and how many octets it takes of the router before it ends.
 #[derive(Clone, Copy)]
 pub struct ClientScript {
-    pub sayings: &'static [Saying],
+    pub says: &'static [TimedOctets],
     pub wanted: usize,
 }
 
 /// All that a script says, joined.
 pub fn stream_of(alloc: Global, script: ClientScript) -> Result<Vec<u8>, AllocError> {
     let mut stream = Vec::new(alloc);
-    for saying in script.sayings {
-        stream.extend_from_slice(saying.octets)?;
+    for said in script.says {
+        stream.extend_from_slice(said.octets)?;
     }
     Ok(stream)
 }
 
 /// A producer of `q`. It sends its message behind the router's flow, and closes behind the outcome.
 pub const PRODUCER: ClientScript = ClientScript {
-    sayings: &[
-        Saying {
+    says: &[
+        TimedOctets {
             octets: AMQP_HEADER,
             taken: 0,
             others: 0,
         },
-        Saying {
+        TimedOctets {
             octets: PRODUCER_OPEN,
             taken: 8,
             others: 0,
         },
-        Saying {
+        TimedOctets {
             octets: BEGIN,
             taken: 44,
             others: 0,
         },
-        Saying {
+        TimedOctets {
             octets: PRODUCER_ATTACH,
             taken: 77,
             others: 0,
         },
-        Saying {
+        TimedOctets {
             octets: TRANSFER,
             taken: 155,
             others: 0,
         },
-        Saying {
+        TimedOctets {
             octets: CLOSE,
             taken: 177,
             others: 0,
@@ -65,38 +65,38 @@ pub const PRODUCER: ClientScript = ClientScript {
 
 /// A consumer of `q` with credit for one message. It accepts that, and closes.
 pub const CONSUMER: ClientScript = ClientScript {
-    sayings: &[
-        Saying {
+    says: &[
+        TimedOctets {
             octets: AMQP_HEADER,
             taken: 0,
             others: 0,
         },
-        Saying {
+        TimedOctets {
             octets: CONSUMER_OPEN,
             taken: 8,
             others: 0,
         },
-        Saying {
+        TimedOctets {
             octets: BEGIN,
             taken: 44,
             others: 0,
         },
-        Saying {
+        TimedOctets {
             octets: CONSUMER_ATTACH,
             taken: 77,
             others: 0,
         },
-        Saying {
+        TimedOctets {
             octets: ONE_CREDIT,
             taken: 116,
             others: 0,
         },
-        Saying {
+        TimedOctets {
             octets: ACCEPTED,
             taken: 148,
             others: 0,
         },
-        Saying {
+        TimedOctets {
             octets: CLOSE,
             taken: 148,
             others: 0,
@@ -108,38 +108,38 @@ pub const CONSUMER: ClientScript = ClientScript {
 /// A producer without address. Behind the router's flow, and once the consumer's link stands, it sends a message for `q` and one
 /// that names no address, and it closes behind both outcomes.
 pub const RELAY: ClientScript = ClientScript {
-    sayings: &[
-        Saying {
+    says: &[
+        TimedOctets {
             octets: AMQP_HEADER,
             taken: 0,
             others: 0,
         },
-        Saying {
+        TimedOctets {
             octets: PRODUCER_OPEN,
             taken: 8,
             others: 0,
         },
-        Saying {
+        TimedOctets {
             octets: BEGIN,
             taken: 44,
             others: 0,
         },
-        Saying {
+        TimedOctets {
             octets: RELAY_ATTACH,
             taken: 77,
             others: 0,
         },
-        Saying {
+        TimedOctets {
             octets: TO_Q,
             taken: 150,
             others: 116,
         },
-        Saying {
+        TimedOctets {
             octets: TO_NOBODY,
             taken: 150,
             others: 116,
         },
-        Saying {
+        TimedOctets {
             octets: CLOSE,
             taken: 195,
             others: 0,
@@ -150,38 +150,38 @@ pub const RELAY: ClientScript = ClientScript {
 
 /// The same, its message for `q` in two transfers, parted in front of its first octet.
 pub const RELAY_IN_TWO: ClientScript = ClientScript {
-    sayings: &[
-        Saying {
+    says: &[
+        TimedOctets {
             octets: AMQP_HEADER,
             taken: 0,
             others: 0,
         },
-        Saying {
+        TimedOctets {
             octets: PRODUCER_OPEN,
             taken: 8,
             others: 0,
         },
-        Saying {
+        TimedOctets {
             octets: BEGIN,
             taken: 44,
             others: 0,
         },
-        Saying {
+        TimedOctets {
             octets: RELAY_ATTACH,
             taken: 77,
             others: 0,
         },
-        Saying {
+        TimedOctets {
             octets: TO_Q_IN_TWO,
             taken: 150,
             others: 116,
         },
-        Saying {
+        TimedOctets {
             octets: TO_NOBODY,
             taken: 150,
             others: 116,
         },
-        Saying {
+        TimedOctets {
             octets: CLOSE,
             taken: 195,
             others: 0,
@@ -192,38 +192,38 @@ pub const RELAY_IN_TWO: ClientScript = ClientScript {
 
 /// A consumer of `q` that accepts the message of such a producer, and closes.
 pub const RELAYED: ClientScript = ClientScript {
-    sayings: &[
-        Saying {
+    says: &[
+        TimedOctets {
             octets: AMQP_HEADER,
             taken: 0,
             others: 0,
         },
-        Saying {
+        TimedOctets {
             octets: CONSUMER_OPEN,
             taken: 8,
             others: 0,
         },
-        Saying {
+        TimedOctets {
             octets: BEGIN,
             taken: 44,
             others: 0,
         },
-        Saying {
+        TimedOctets {
             octets: CONSUMER_ATTACH,
             taken: 77,
             others: 0,
         },
-        Saying {
+        TimedOctets {
             octets: ONE_CREDIT,
             taken: 116,
             others: 0,
         },
-        Saying {
+        TimedOctets {
             octets: ACCEPTED,
             taken: 159,
             others: 0,
         },
-        Saying {
+        TimedOctets {
             octets: CLOSE,
             taken: 159,
             others: 0,
@@ -234,18 +234,18 @@ pub const RELAYED: ClientScript = ClientScript {
 
 /// It says its begin only when the other client took the router's open, and ends behind the answer.
 pub const BEGINS_LATE: ClientScript = ClientScript {
-    sayings: &[
-        Saying {
+    says: &[
+        TimedOctets {
             octets: AMQP_HEADER,
             taken: 0,
             others: 0,
         },
-        Saying {
+        TimedOctets {
             octets: PRODUCER_OPEN,
             taken: 8,
             others: 0,
         },
-        Saying {
+        TimedOctets {
             octets: BEGIN,
             taken: 44,
             others: 44,
@@ -256,13 +256,13 @@ pub const BEGINS_LATE: ClientScript = ClientScript {
 
 /// It says nothing until the other client took the router's open, and ends behind the answer to its own.
 pub const OPENS_LATE: ClientScript = ClientScript {
-    sayings: &[
-        Saying {
+    says: &[
+        TimedOctets {
             octets: AMQP_HEADER,
             taken: 0,
             others: 44,
         },
-        Saying {
+        TimedOctets {
             octets: CONSUMER_OPEN,
             taken: 8,
             others: 44,
@@ -273,18 +273,18 @@ pub const OPENS_LATE: ClientScript = ClientScript {
 
 /// It asks for signs of life each second, says its close only when it has heard three of them, and ends behind the answer.
 pub const QUIET: ClientScript = ClientScript {
-    sayings: &[
-        Saying {
+    says: &[
+        TimedOctets {
             octets: AMQP_HEADER,
             taken: 0,
             others: 0,
         },
-        Saying {
+        TimedOctets {
             octets: QUIET_OPEN,
             taken: 8,
             others: 0,
         },
-        Saying {
+        TimedOctets {
             octets: CLOSE,
             taken: 68,
             others: 0,
@@ -297,7 +297,7 @@ pub const QUIET: ClientScript = ClientScript {
 /// that is no performative; and nothing at all.
 pub const STRANGERS: [ClientScript; 5] = [
     ClientScript {
-        sayings: &[Saying {
+        says: &[TimedOctets {
             octets: b"GET / HTTP/1.1\r\n\r\n",
             taken: 0,
             others: 0,
@@ -305,7 +305,7 @@ pub const STRANGERS: [ClientScript; 5] = [
         wanted: usize::MAX,
     },
     ClientScript {
-        sayings: &[Saying {
+        says: &[TimedOctets {
             octets: b"AMQP\x03\x01\x00\x00\x00\x00\x00\x15\x02\x01\x00\x00\x00\x53\x41\xc0\x08\x01\xa3\x05PLAIN",
             taken: 0,
             others: 0,
@@ -313,7 +313,7 @@ pub const STRANGERS: [ClientScript; 5] = [
         wanted: usize::MAX,
     },
     ClientScript {
-        sayings: &[Saying {
+        says: &[TimedOctets {
             octets: b"AMQP\x00\x01\x00\x00\x00\x00\x00\x07\x01\x02",
             taken: 0,
             others: 0,
@@ -321,7 +321,7 @@ pub const STRANGERS: [ClientScript; 5] = [
         wanted: usize::MAX,
     },
     ClientScript {
-        sayings: &[Saying {
+        says: &[TimedOctets {
             octets: b"AMQP\x00\x01\x00\x00\x00\x00\x00\x0c\x02\x00\x00\x00\xff\xff\xff\xff",
             taken: 0,
             others: 0,
@@ -329,7 +329,7 @@ pub const STRANGERS: [ClientScript; 5] = [
         wanted: usize::MAX,
     },
     ClientScript {
-        sayings: &[],
+        says: &[],
         wanted: usize::MAX,
     },
 ];

@@ -11,7 +11,7 @@ pub const NO_ADDRESS: usize = 6;
 
 /// How far a connection has come.
 #[derive(Clone, Copy, PartialEq, Eq)]
-pub enum Stage {
+pub enum ConnectionStage {
     /// Nothing happened yet.
     Absent,
     /// Its header was accepted.
@@ -48,7 +48,7 @@ impl Life {
 #[derive(Clone, Copy)]
 pub struct Client {
     pub connection: u32,
-    pub stage: Stage,
+    pub stage: ConnectionStage,
 }
 
 /// A channel of a connection.
@@ -130,7 +130,7 @@ impl Known {
         for connection in 0..count {
             clients.push(Client {
                 connection,
-                stage: Stage::Absent,
+                stage: ConnectionStage::Absent,
             })?;
         }
         Ok(Known {
@@ -148,7 +148,7 @@ impl Known {
         let place = chance.place(self.clients.len());
         self.clients.get(place).copied().unwrap_or(Client {
             connection: 0,
-            stage: Stage::Lost,
+            stage: ConnectionStage::Lost,
         })
     }
 
@@ -158,7 +158,7 @@ impl Known {
         for client in self.clients.iter_mut() {
             if client.connection == connection {
                 client.connection = fresh;
-                client.stage = Stage::Absent;
+                client.stage = ConnectionStage::Absent;
             }
         }
         self.next_connection = fresh.wrapping_add(1);
@@ -166,13 +166,13 @@ impl Known {
     }
 
     /// How far a connection has come.
-    pub fn stage_of(&self, connection: u32) -> Stage {
+    pub fn stage_of(&self, connection: u32) -> ConnectionStage {
         for client in self.clients.iter() {
             if client.connection == connection {
                 return client.stage;
             }
         }
-        Stage::Absent
+        ConnectionStage::Absent
     }
 
     /// How far the session of a place has come.

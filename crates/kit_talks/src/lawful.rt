@@ -2,7 +2,7 @@
 
 use crate::deed::Deed;
 use crate::driver::Driver;
-use crate::known::{ChannelKey, Client, Life, Link, Session, Stage};
+use crate::known::{ChannelKey, Client, ConnectionStage, Life, Link, Session};
 use crate::said;
 use crate::said::{Attaching, Crediting, Sending};
 use kit_clients::framed;
@@ -20,8 +20,8 @@ impl Driver {
     /// What a client does next.
     pub(crate) fn lawful(&mut self, client: Client) -> Result<Deed, AllocError> {
         match client.stage {
-            Stage::Absent => Ok(Deed::Opened(client.connection)),
-            Stage::Headed => {
+            ConnectionStage::Absent => Ok(Deed::Opened(client.connection)),
+            ConnectionStage::Headed => {
                 let limit = self
                     .chance
                     .one_of(&[0, 512, 512, 600, 1000, 16384, 100_000], 0);
@@ -29,9 +29,9 @@ impl Driver {
                 let frame = self.framed(0, said::open(self.alloc, limit)?)?;
                 Ok(Driver::sent(client, frame))
             }
-            Stage::Open => self.speak(client),
-            Stage::Closed => Ok(Deed::Lost(client.connection)),
-            Stage::Lost => Ok(Deed::Opened(self.known.come_back(client.connection))),
+            ConnectionStage::Open => self.speak(client),
+            ConnectionStage::Closed => Ok(Deed::Lost(client.connection)),
+            ConnectionStage::Lost => Ok(Deed::Opened(self.known.come_back(client.connection))),
         }
     }
 

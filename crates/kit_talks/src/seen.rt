@@ -1,7 +1,7 @@
 //! What the clients learn from the records of a step: of what they said themselves, and of what the router wrote.
 
 use crate::known::{
-    ADDRESSES, ChannelKey, Held, Known, Life, Link, NO_ADDRESS, Sent, Session, Stage,
+    ADDRESSES, ChannelKey, ConnectionStage, Held, Known, Life, Link, NO_ADDRESS, Sent, Session,
 };
 use amqp_frames::FrameView;
 use amqp_perf::{
@@ -15,9 +15,9 @@ impl Known {
     pub fn see(&mut self, number: u64, entry: &Record) -> Result<(), AllocError> {
         let connection = entry.connection;
         match &entry.what {
-            What::Opened => self.come_to(connection, Stage::Headed),
-            What::Broken => self.leave(connection, Stage::Closed),
-            What::Lost => self.leave(connection, Stage::Lost),
+            What::Opened => self.come_to(connection, ConnectionStage::Headed),
+            What::Broken => self.leave(connection, ConnectionStage::Closed),
+            What::Lost => self.leave(connection, ConnectionStage::Lost),
             What::In(frame) => {
                 if let Some((place, said)) = spoken(connection, frame.octets()) {
                     self.say(number, place, &said)?;
@@ -33,7 +33,7 @@ impl Known {
     }
 
     /// A connection has come so far.
-    fn come_to(&mut self, connection: u32, stage: Stage) {
+    fn come_to(&mut self, connection: u32, stage: ConnectionStage) {
         for client in self.clients.iter_mut() {
             if client.connection == connection {
                 client.stage = stage;
@@ -42,7 +42,7 @@ impl Known {
     }
 
     /// A connection has come so far that nothing of it is left.
-    fn leave(&mut self, connection: u32, stage: Stage) {
+    fn leave(&mut self, connection: u32, stage: ConnectionStage) {
         self.come_to(connection, stage);
         self.sessions
             .retain(|session| session.place.connection != connection);
@@ -59,31 +59,37 @@ impl Known {
         said: &Performative<'_>,
     ) -> Result<(), AllocError> {
         match (self.stage_of(place.connection), said) {
-            (Stage::Headed, Performative::Open(_)) => self.come_to(place.connection, Stage::Open),
-            (Stage::Open, Performative::Begin(begin)) if self.life_at(place).is_none() => {
-                self.sessions.push(Session {
-                    place,
-                    life: Life::Asked,
-                    next: begin.next_outgoing_id,
-                    next_id: begin.next_outgoing_id,
-                    seen: 0,
-                })?
-            }
-            (Stage::Open, Performative::Attach(attach))
+            (ConnectionStage::Headed, Performative::Open(_)) => self.come_to(
+                place.connection,
+                ConnectionStage::Open,
+            ),
+            (ConnectionStage::Open, Performative::Begin(begin)) if self.life_at(place).is_none() =>
+                {
+                    self.sessions.push(Session {
+                        place,
+                        life: Life::Asked,
+                        next: begin.next_outgoing_id,
+                        next_id: begin.next_outgoing_id,
+                        seen: 0,
+                    })?
+                }
+            (ConnectionStage::Open, Performative::Attach(attach))
                 if self.life_at(place) == Some(Life::Live) => {
                 self.ask(place, attach)?;
             }
-            (Stage::Open, Performative::Transfer(transfer)) => self.send(number, place, transfer)?,
-            (Stage::Open, Performative::Disposition(disposition)) => {
+            (ConnectionStage::Open, Performative::Transfer(transfer)) => self.send(
+                number, place, transfer,
+            )?,
+            (ConnectionStage::Open, Performative::Disposition(disposition)) => {
                 self.decide(place, disposition);
             }
-            (Stage::Open, Performative::Detach(detach)) => {
+            (ConnectionStage::Open, Performative::Detach(detach)) => {
                 self.turn_link(place, detach.handle, Life::Over, Life::Leaving);
             }
-            (Stage::Open, Performative::End(_)) => {
+            (ConnectionStage::Open, Performative::End(_)) => {
                 self.turn_session(place, Life::Over, Life::Leaving);
             }
-            (_, Performative::Close(_)) => self.leave(place.connection, Stage::Closed),
+            (_, Performative::Close(_)) => self.leave(place.connection, ConnectionStage::Closed),
             _ => {}
         }
         Ok(())
@@ -190,7 +196,7 @@ impl Known {
     fn hear(&mut self, place: ChannelKey, said: &Performative<'_>) -> Result<(), AllocError> {
         match said {
             Performative::Open(_) => {}
-            Performative::Close(_) => self.leave(place.connection, Stage::Closed),
+            Performative::Close(_) => self.leave(place.connection, ConnectionStage::Closed),
             Performative::Begin(_) => self.begun(place),
             Performative::End(_) => self.ended(place),
             Performative::Attach(attach) => self.attached(place, attach.handle),

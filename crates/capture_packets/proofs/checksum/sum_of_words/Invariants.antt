@@ -1,6 +1,6 @@
 use Rattle.std.proofs.Common.{◌≡◌, ◌*◌, ◌≤◌, ◌+◌, length}
 use Rattle.capture_packets.specs.Headers.{sum_of_words}
-use Rattle.capture_packets.proofs.checksum.words_of.Given as goal
+use Rattle.capture_packets.proofs.checksum.sum_of_words.Given as goal
 
 abbrev pub invariant-loop-rest : goal.invariant-loop-rest
 invariant-loop-rest l = record {
