@@ -1,14 +1,24 @@
 -- What a script tells of the octets that a gate took of an engine.
-use Rattle.std.specs.Prelude.{◌≡◌, ℕ, ◌+◌, List, [], ◌∷◌, ◌++◌, length, take, drop}
+use Rattle.std.specs.Prelude.{◌≡◌, ℕ, zero, suc, ◌+◌, List, [], ◌∷◌, ◌++◌, length, take, drop}
 use Rattle.std.specs.List.{concat}
+use Rattle.conn_engine.specs.Silence.{empty_frame}
 use Rattle.conn_engine.specs.declared.script.Own.{Own}
 use Rattle.conn_engine.specs.declared.script.Script.{Script}
+
+-- the octets of so many empty frames
+unfoldable pub empty_frames : ℕ → List ℕ
+empty_frames zero = []
+empty_frames (suc n) = empty_frames n ++ empty_frame
+
+-- what a piece has: octets, and the empty frames behind them
+unfoldable pub own_octets : Own → List ℕ
+own_octets own = own.octets.items ++ empty_frames own.empties
 
 -- octets of frames, and own ones between them: each piece of these stands behind so many of the frames, counted from the piece
 -- in front of it
 abbrev pub laced : List Own → List ℕ → List ℕ
 laced [] framed = framed
-laced (own ∷ owns) framed = take own.behind framed ++ own.octets.items ++ laced owns (drop own.behind framed)
+laced (own ∷ owns) framed = take own.behind framed ++ own_octets own ++ laced owns (drop own.behind framed)
 
 -- how many octets of frames stand in front of the last piece
 abbrev pub frames_before : List Own → ℕ

@@ -2,8 +2,10 @@
 
 ghost use Rattle.std.specs.Prelude.{◌≡◌, ◌+◌, ◌++◌, ◌<◌, ◌≤◌, ◌^◌, [], List, ℕ, length, take, drop, IsTrue, IfOk, OnOk};
 ghost use Rattle.std.specs.List.{concat};
-ghost use Rattle.conn_engine.specs.Scripts.{StandsFor, octets_taken};
+ghost use Rattle.conn_engine.specs.Scripts.{StandsFor, empty_frames, octets_taken, own_octets};
+ghost use Rattle.conn_engine.specs.Silence.{empty_frame};
 
+use crate::silence::EMPTY_FRAME;
 use capture_form::Frame;
 use std::alloc::{AllocError, Global};
 use std::marker::Model;
@@ -14,13 +16,58 @@ struct Own {
     /// Behind how many octets of frames they stand, counted from the piece in front of this one.
     behind: usize,
     octets: Vec<u8>,
+    /// How many empty frames stand behind these octets. So those that a client hears while nothing else is said take no memory.
+    empties: usize,
+}
+
+impl Own {
+    /// Puts its octets behind `out`.
+    ///
+    /// # Errors
+    ///
+    /// Where the memory for them is refused.
+    fn put(&self, out: &mut Vec<u8>) -> Result<(), AllocError>
+        ensures { OnOk result (out.new.items ≡ out.old.items ++ own_octets self.now) }
+    {
+        out.extend_from_slice(&self.octets)?;
+        put_empties(self.empties, out)
+    }
+
+    /// One empty frame more stands behind it.
+    ///
+    /// # Errors
+    ///
+    /// Where there are more than can be counted; nothing has changed then.
+    fn add_empty(&mut self) -> Result<(), AllocError>
+        ensures place { self.new.behind ≡ self.old.behind }
+        ensures more { OnOk result (own_octets self.new ≡ own_octets self.old ++ empty_frame) }
+    {
+        match self.empties.checked_add(1) {
+            Some(empties) => {
+                self.empties = empties;
+                Ok(())
+            }
+            None => Err(AllocError),
+        }
+    }
+}
+
+/// Puts so many empty frames behind `out`.
+fn put_empties(count: usize, out: &mut Vec<u8>) -> Result<(), AllocError>
+    ensures { OnOk result (out.new.items ≡ out.old.items ++ empty_frames count) }
+{
+    for _ in 0..count {
+        out.extend_from_slice(&EMPTY_FRAME)?;
+    }
+    Ok(())
 }
 
 /// Which octets a gate took of an engine, where those of the frames that the engine's port gave are not kept once more: what
 /// the engine put between the frames on its own, which is its answers to the client's headers and SASL, and empty frames; and
 /// how many octets the gate took.
 ///
-/// It takes memory by how many octets the engine put on its own.
+/// It takes memory by how many pieces of its own the engine put between frames, and by their octets. Empty frames in a row are one
+/// piece, and have none.
 #[derive(Debug, Drop)]
 pub struct Script {
     owns: Vec<Own>,
@@ -55,7 +102,7 @@ impl Script {
         let mut left = Left::of(frames);
         for own in &self.owns {
             left.put(own.behind, &mut octets)?;
-            octets.extend_from_slice(&own.octets)?;
+            own.put(&mut octets)?;
         }
         left.put(self.taken.saturating_sub(octets.len()), &mut octets)?;
         octets.truncate(self.taken);
@@ -105,32 +152,43 @@ impl Script {
         if octets.is_empty() {
             return Ok(());
         }
+        if octets == EMPTY_FRAME.as_slice() {
+            return self.own_empty();
+        }
+        self.begin(octets, 0)
+    }
+
+    /// The engine put an empty frame behind those that wait.
+    fn own_empty(&mut self) -> Result<(), AllocError>
+        ensures { OnOk result ((framed taken waiting : List ℕ) → StandsFor self.old framed taken waiting → StandsFor self.new framed taken (waiting ++ empty_frame)) }
+    {
         if self.behind == 0 {
-            self.join(octets)
+            self.join_empty()
         } else {
-            self.begin(octets)
+            self.begin(&[], 1)
         }
     }
 
-    /// Joins these octets to the last piece, behind which no frame stands, if there is one.
-    fn join(&mut self, octets: &[u8]) -> Result<(), AllocError>
+    /// Joins an empty frame to the last piece, behind which no frame of the port stands, if there is one.
+    fn join_empty(&mut self) -> Result<(), AllocError>
         requires { self.old.behind ≡ 0 }
-        ensures { OnOk result ((framed taken waiting : List ℕ) → StandsFor self.old framed taken waiting → StandsFor self.new framed taken (waiting ++ octets.now)) }
+        ensures { OnOk result ((framed taken waiting : List ℕ) → StandsFor self.old framed taken waiting → StandsFor self.new framed taken (waiting ++ empty_frame)) }
     {
         match self.owns.last_mut() {
-            Some(last) => last.octets.extend_from_slice(octets),
-            None => self.begin(octets),
+            Some(last) => last.add_empty(),
+            None => self.begin(&[], 1),
         }
     }
 
-    /// Begins a piece with these octets.
-    fn begin(&mut self, octets: &[u8]) -> Result<(), AllocError>
-        ensures { OnOk result ((framed taken waiting : List ℕ) → StandsFor self.old framed taken waiting → StandsFor self.new framed taken (waiting ++ octets.now)) }
+    /// Begins a piece with these octets, and so many empty frames behind them.
+    fn begin(&mut self, octets: &[u8], empties: usize) -> Result<(), AllocError>
+        ensures { OnOk result ((said : List ℕ) → octets.now ++ empty_frames empties ≡ said → (framed taken waiting : List ℕ) → StandsFor self.old framed taken waiting → StandsFor self.new framed taken (waiting ++ said)) }
     {
         let octets = Vec::from_slice(*self.owns.allocator(), octets)?;
         self.owns.push(Own {
             behind: self.behind,
             octets,
+            empties,
         })?;
         self.behind = 0;
         Ok(())
