@@ -16,4 +16,4 @@ mod scripted;
 pub use chance::Chance;
 pub use fields::{Fields, framed};
 pub use reading::{AMQP_HEADER, MECHANISMS, REFUSAL, Reading, SASL_HEADER, WELCOME, read};
-pub use scripted::{CONSUMER, PRODUCER, ScriptStep, heard, talks};
+pub use scripted::{LOOPBACK_CONSUMER, LOOPBACK_PRODUCER, ScriptStep, heard, talks};

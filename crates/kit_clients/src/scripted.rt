@@ -2,6 +2,7 @@
 //! and a consumer that takes it. Served by a router over one core, their exchange makes 26 records, with one delivery and one
 //! outcome.
 
+use crate::reading::AMQP_HEADER;
 use std::alloc::{AllocError, Global};
 use std::io::{Read, Write};
 use std::net::{Ipv4Addr, Net, SocketAddr, TcpStream};
@@ -16,8 +17,6 @@ pub enum ScriptStep {
     Says(&'static [u8]),
     Hears(&'static [u8]),
 }
-
-const HEADER: &[u8] = b"AMQP\x00\x01\x00\x00";
 
 const ROUTER_OPEN: &[u8] =
     b"\x00\x00\x00\x24\x02\x00\x00\x00\x00\x53\x10\xc0\x17\x04\xa1\x0bamqp-router\x40\x70\x00\x00\x40\x00\x60\x00\xff";
@@ -34,9 +33,9 @@ const ACCEPTED: &[u8] =
 const CLOSE: &[u8] = b"\x00\x00\x00\x0c\x02\x00\x00\x00\x00\x53\x18\x45";
 
 /// Sends the message `hi` to the address `q`, and hears that it was accepted.
-pub const PRODUCER: &[ScriptStep] = &[
-    ScriptStep::Says(HEADER),
-    ScriptStep::Hears(HEADER),
+pub const LOOPBACK_PRODUCER: &[ScriptStep] = &[
+    ScriptStep::Says(AMQP_HEADER),
+    ScriptStep::Hears(AMQP_HEADER),
     ScriptStep::Says(b"\x00\x00\x00\x11\x02\x00\x00\x00\x00\x53\x10\xc0\x04\x01\xa1\x01p"),
     ScriptStep::Hears(ROUTER_OPEN),
     ScriptStep::Says(BEGIN),
@@ -59,9 +58,9 @@ pub const PRODUCER: &[ScriptStep] = &[
 ];
 
 /// Gives one credit at the address `q`, and accepts what comes.
-pub const CONSUMER: &[ScriptStep] = &[
-    ScriptStep::Says(HEADER),
-    ScriptStep::Hears(HEADER),
+pub const LOOPBACK_CONSUMER: &[ScriptStep] = &[
+    ScriptStep::Says(AMQP_HEADER),
+    ScriptStep::Hears(AMQP_HEADER),
     ScriptStep::Says(b"\x00\x00\x00\x11\x02\x00\x00\x00\x00\x53\x10\xc0\x04\x01\xa1\x01c"),
     ScriptStep::Hears(ROUTER_OPEN),
     ScriptStep::Says(BEGIN),

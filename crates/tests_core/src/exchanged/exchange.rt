@@ -6,7 +6,7 @@ use crate::cores::core_without_rules;
 use crate::exchanged::device::Device;
 use capture_form::Capture;
 use conn_engine::EngineFault;
-use kit_clients::{CONSUMER, PRODUCER, ScriptStep, heard};
+use kit_clients::{LOOPBACK_CONSUMER, LOOPBACK_PRODUCER, ScriptStep, heard};
 use route_core::Core;
 use std::alloc::{AllocError, Global};
 use std::cell::RefCell;
@@ -126,8 +126,8 @@ fn play(alloc: Global, core: Core, most: usize) -> (bool, Capture)
 fn take_turns(alloc: Global, core: &RefCell<Core>, most: usize) -> bool
     requires { 0 < most }
 {
-    let mut producer = Player::new(alloc, 0, core, PRODUCER);
-    let mut consumer = Player::new(alloc, 1, core, CONSUMER);
+    let mut producer = Player::new(alloc, 0, core, LOOPBACK_PRODUCER);
+    let mut consumer = Player::new(alloc, 1, core, LOOPBACK_CONSUMER);
     come_to_ends(&mut producer, &mut consumer, most)
 }
 
