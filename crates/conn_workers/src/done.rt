@@ -53,6 +53,7 @@ impl<G: Gate, J: Origin<G>> Model for Part<G, J> {
 }
 
 impl<G: Gate, J: Origin<G>> Done<G, J> {
+    /// What is left of a line that has ended.
     pub(crate) fn new<'a, R: Wait>(line: Line<G, ExchangePort<'a, R>, J>) -> Done<G, J>
         requires { line ≡ Ended }
     {
@@ -65,12 +66,14 @@ impl<G: Gate, J: Origin<G>> Done<G, J> {
         }
     }
 
+    /// The number of its connection.
     pub(crate) fn conn(&self) -> u32
         ensures { result ≡ self.now.conn }
     {
         self.seat.conn
     }
 
+    /// Its gate with the script, and its seat, apart.
     pub(crate) fn apart(self) -> (Part<G, J>, Seat)
         ensures part { result.0 ≡ self }
         ensures seat { result.1 ≡ self }

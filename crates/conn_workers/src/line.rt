@@ -62,6 +62,7 @@ impl<G: Gate, P: Port, J: Origin<G>> Model for Line<G, P, J> {
 impl<G: Gate, J: Origin<G>> Start<G, J> {
     ghost use Rattle.std.specs.Prelude.{◌≡◌, [], Some, slice_get};
 
+    /// The gate of this connection, which was never called.
     pub(crate) fn new(conn: u32, gate: G) -> Start<G, J>
         requires given { slice_get J.gates conn ≡ Some gate }
         requires fresh { G.delivered gate [] × G.took gate [] }
@@ -74,6 +75,7 @@ impl<G: Gate, J: Origin<G>> Start<G, J> {
         }
     }
 
+    /// The number of its connection.
     pub(crate) fn conn(&self) -> u32
         ensures { result ≡ self.now }
     {

@@ -220,6 +220,7 @@ pub(crate) struct WorkerPolls {
 }
 
 impl WorkerPolls {
+    /// These, in the order of their workers.
     pub(crate) fn new(polls: Vec<Arc<WorkerPoll, Global>>) -> WorkerPolls
         ensures { result.polls ≡ polls }
     {

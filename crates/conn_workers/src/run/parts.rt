@@ -12,6 +12,11 @@ use conn_engine::Gate;
 use core_exchange::Seat;
 use std::alloc::{AllocError, Global};
 
+/// All gates with their scripts, and all seats, apart, in the same order.
+///
+/// # Errors
+///
+/// Memory was refused.
 pub(super) fn apart_all<G: Gate + Drop, J: Origin<G>>(
     alloc: Global,
     dones: Vec<Done<G, J>>,
