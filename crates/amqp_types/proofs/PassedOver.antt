@@ -156,6 +156,16 @@ empty_passed : (levels at first : ℕ) (bytes : List ℕ) → code_of first ≡ 
 unfolding data_at data_by
 empty_passed levels at first bytes known = one_level levels at first codes.EmptyList bytes known
 
+-- the code of a type of fixed width tells how many octets are behind it, where any may be the data
+pub fixed_plain : (first : ℕ) (scalar : Scalar) → code_of first ≡ Some (codes.Fixed scalar) → takes_any scalar ≡ true → IsPlain first (width_of scalar)
+unfolding IsPlain
+fixed_plain first scalar known any = inr (scalar, known, any, refl)
+
+-- the empty list has no octets behind its code
+pub empty_plain : (first : ℕ) → code_of first ≡ Some codes.EmptyList → IsPlain first 0
+unfolding IsPlain
+empty_plain first known = inl (known, refl)
+
 -- what is behind a value whose first octet says how long it is
 pub plain_passed : (bytes : List ℕ) (first width : ℕ) (behind_first : List ℕ) → bytes ≡ first ∷ behind_first → IsPlain first width → width ≤ length behind_first → IsPassed bytes (drop width behind_first)
 unfolding IsPlain

@@ -206,3 +206,33 @@ taken_wanted says form n left octets a rest count filled e =
       value = sym (ap (option_and_then says) (sym one.value) ∙ said.2);
       behind = one.behind ∙ behind_same says (items_in form n octets) said.0 a one.value said.2;
     }
+
+-- what is none with octets behind it is none
+not_of : {A : Type 0} (o : Option A) (behind : List ℕ) → ◌≡◌ {A = Option (A × List ℕ)} None (option_map (λ a. (a, behind)) o) → o ≡ None
+not_of None behind e = refl
+not_of (Some a) behind e = absurd cc
+
+-- what is wanted was not said, where nothing of it was read
+not_said : {A : Type 0} (says : Simple → Option A) (r : Option Simple) (behind : List ℕ) → ◌≡◌ {A = Option (A × List ℕ)} None (wanted says (option_map (λ simple. (simple, behind)) r)) → option_and_then says r ≡ None
+not_said says None behind e = refl
+not_said says (Some s) behind e = not_of (says s) behind e
+
+-- the first of some values is not what is wanted, and all of them are left
+pub record IsUnwanted {A : Type 0} (says : Simple → Option A) (form : Option Constructor) (n : ℕ) (octets : List ℕ) : Type 0 where
+  pub value : None ≡ first_wanted says (items_in form n octets)
+  pub left : items_in form n octets ≡ behind_wanted says (items_in form n octets)
+
+-- nothing is taken where no value is left
+pub none_wanted : {A : Type 0} (says : Simple → Option A) (form : Option Constructor) (n : ℕ) (octets : List ℕ) → n < 1 → IsUnwanted says form n octets
+unfolding items_in
+none_wanted says form zero octets none = record { value = refl; left = refl }
+none_wanted says form (suc n) octets none = absurd (omega (arith, none))
+
+-- nothing is taken where the first one does not say what is wanted
+pub other_left : {A : Type 0} (says : Simple → Option A) (form : Option Constructor) (n : ℕ) (octets : List ℕ) → 0 < n → are_items form n octets ≡ true
+    → ◌≡◌ {A = Option (A × List ℕ)} None (wanted says (simple_value (item_at MAX_DEPTH form 0 octets))) → IsUnwanted says form n octets
+other_left says form n octets some filled e =
+    let one = first_read form n octets some filled in
+    let not = not_said says (simple_in one.0.0.part) one.0.1 (e ∙ ap (λ (r : Read Seen). wanted says (simple_value r)) one.1.read) in
+    let items = first_is form n octets one.0 some one.1.read in
+    record { value = rw (items, not) refl; left = rw (items, not) refl }

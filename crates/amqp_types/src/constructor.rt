@@ -9,7 +9,7 @@ ghost use Rattle.flow_counts.specs.declared.profile.TheConstants.{MAX_DEPTH};
 use crate::code::Code;
 
 /// A descriptor in front of a constructor: part 1, 1.2.
-#[derive(Clone, Copy, Debug)]
+#[derive(Clone, Copy)]
 pub(crate) struct Tag<'a> {
     /// The octets of the descriptor.
     pub(crate) descriptor: &'a [u8],
@@ -19,7 +19,7 @@ pub(crate) struct Tag<'a> {
 }
 
 /// The constructor of an array's elements: any number of descriptors, and a format code.
-#[derive(Clone, Copy, Debug)]
+#[derive(Clone, Copy)]
 pub(crate) struct Constructor<'a> {
     /// Its octets.
     pub(crate) octets: &'a [u8],

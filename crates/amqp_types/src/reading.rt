@@ -41,7 +41,7 @@ fn pass_coded(levels: usize, code: Code, at: usize, bytes: &[u8]) -> Result<&[u8
 }
 
 /// How many octets are behind the first one of a value, where any may stand there.
-#[tactic(auto, unfolding(crate::specs::Items::IsPlain))]
+#[tactic(auto, using(crate::proofs::PassedOver::fixed_plain, crate::proofs::PassedOver::empty_plain))]
 #[inline(always)]
 fn plain_width(first: u8) -> Option<usize>
     ensures { IfSome result (IsPlain first) }

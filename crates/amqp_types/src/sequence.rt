@@ -167,7 +167,6 @@ impl<'a> Items<'a> {
 
     /// Takes the next value, where it is null or an uint, and gives its number: `Some(None)` for null. `None` where it is
     /// another one, which is not taken, and behind the last.
-    #[tactic(auto, unfolding(crate::specs::Items::items_in))]
     #[inline(always)]
     pub fn next_uint(&mut self) -> Option<Option<u32>>
         ensures value { result ≡ first_wanted uint_said (items_left self.old) }
@@ -189,17 +188,20 @@ impl<'a> Items<'a> {
     /// As `next_uint`, of every value: of an array's element too, whose constructor does not stand in front of it, while
     /// `next_uint` itself looks for the first octet of a null or an uint there. `None` where it is another value, which is not
     /// taken, and behind the last.
-    #[tactic(auto, unfolding(crate::specs::Items::items_in))]
     #[inline(never)]
     fn uint_of_any(&mut self) -> Option<Option<u32>>
         ensures value { result ≡ first_wanted uint_said (items_left self.old) }
         ensures left { items_left self.new ≡ behind_wanted uint_said (items_left self.old) }
     {
-        let left = self.left.checked_sub(1)?;
-        let (value, rest) = uint_item(self.form, self.rest)?;
+        if self.left == 0 {
+            return None;
+        }
+        let Some((value, rest)) = uint_item(self.form, self.rest) else {
+            return None;
+        };
         *self = Items {
             form: self.form,
-            left,
+            left: self.left - 1,
             rest,
         };
         Some(value)
@@ -207,7 +209,6 @@ impl<'a> Items<'a> {
 
     /// Takes the next value, where it is null or a boolean, and gives it: `Some(None)` for null. `None` where it is
     /// another one, which is not taken, and behind the last.
-    #[tactic(auto, unfolding(crate::specs::Items::items_in))]
     #[inline(always)]
     pub fn next_bool(&mut self) -> Option<Option<bool>>
         ensures value { result ≡ first_wanted boolean_said (items_left self.old) }
@@ -229,17 +230,20 @@ impl<'a> Items<'a> {
     /// As `next_bool`, of every value: of an array's element too, whose constructor does not stand in front of it, while
     /// `next_bool` itself looks for the first octet of a null or a boolean there. `None` where it is another value, which is not
     /// taken, and behind the last.
-    #[tactic(auto, unfolding(crate::specs::Items::items_in))]
     #[inline(never)]
     fn bool_of_any(&mut self) -> Option<Option<bool>>
         ensures value { result ≡ first_wanted boolean_said (items_left self.old) }
         ensures left { items_left self.new ≡ behind_wanted boolean_said (items_left self.old) }
     {
-        let left = self.left.checked_sub(1)?;
-        let (value, rest) = boolean_item(self.form, self.rest)?;
+        if self.left == 0 {
+            return None;
+        }
+        let Some((value, rest)) = boolean_item(self.form, self.rest) else {
+            return None;
+        };
         *self = Items {
             form: self.form,
-            left,
+            left: self.left - 1,
             rest,
         };
         Some(value)

@@ -131,10 +131,15 @@ fn boolean_scalar(first: u8) -> Option<Scalar>
 fn uint_front(bytes: &[u8]) -> Option<(Option<u32>, &[u8])>
     ensures { IfSome result (λ x. wanted uint_said (simple_value (seen_at MAX_DEPTH 0 bytes.now)) ≡ Some (x.0, x.1.now)) }
 {
-    let (first, data) = bytes.split_first()?;
-    match read_simple(uint_scalar(*first)?, data)? {
-        (Simple::Null, rest) => Some((None, rest)),
-        (Simple::Uint(number), rest) => Some((Some(number), rest)),
+    let Some((first, data)) = bytes.split_first() else {
+        return None;
+    };
+    let Some(scalar) = uint_scalar(*first) else {
+        return None;
+    };
+    match read_simple(scalar, data) {
+        Some((Simple::Null, rest)) => Some((None, rest)),
+        Some((Simple::Uint(number), rest)) => Some((Some(number), rest)),
         _ => None,
     }
 }
@@ -144,10 +149,15 @@ fn uint_front(bytes: &[u8]) -> Option<(Option<u32>, &[u8])>
 fn boolean_front(bytes: &[u8]) -> Option<(Option<bool>, &[u8])>
     ensures { IfSome result (λ x. wanted boolean_said (simple_value (seen_at MAX_DEPTH 0 bytes.now)) ≡ Some (x.0, x.1.now)) }
 {
-    let (first, data) = bytes.split_first()?;
-    match read_simple(boolean_scalar(*first)?, data)? {
-        (Simple::Null, rest) => Some((None, rest)),
-        (Simple::Boolean(value), rest) => Some((Some(value), rest)),
+    let Some((first, data)) = bytes.split_first() else {
+        return None;
+    };
+    let Some(scalar) = boolean_scalar(*first) else {
+        return None;
+    };
+    match read_simple(scalar, data) {
+        Some((Simple::Null, rest)) => Some((None, rest)),
+        Some((Simple::Boolean(value), rest)) => Some((Some(value), rest)),
         _ => None,
     }
 }

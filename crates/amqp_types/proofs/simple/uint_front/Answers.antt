@@ -3,12 +3,12 @@ use Rattle.amqp_types.specs.Simple.{uint_said}
 use Rattle.amqp_types.proofs.SimpleValues.{front_says}
 use Rattle.amqp_types.proofs.simple.uint_front.Goals as goal
 
-pub returns-in-Null-default : goal.returns-in-Null-default
-returns-in-Null-default c =
-    let front = c.in_ok-first in
-    front_says uint_said c.args.bytes.now front.first.now c.in_ok-uint_scalar.field-0 front.data.now c.in_ok-rest.field-0.0 c.in_ok-rest.field-0.1.now None front.ensures.cases.0 c.in_ok-uint_scalar.ensures c.in_ok-rest.ensures (ap uint_said c.in-Null-default.is-0)
+pub returns-in-Some-Null-default : goal.returns-in-Some-Null-default
+returns-in-Some-Null-default c =
+    let front = c.in-Some in
+    front_says uint_said c.args.bytes.now front.first.now c.in-Some-uint_scalar.scalar front.data.now c.in-Some-Null-default.field-0-0 c.in-Some-Null-default.rest.now None front.ensures.cases.0 c.in-Some-uint_scalar.ensures c.in-Some-Null-default.ensures (ap uint_said c.in-Some-Null-default.field-0-0-is)
 
-pub returns-in-Uint-default : goal.returns-in-Uint-default
-returns-in-Uint-default c =
-    let front = c.in_ok-first in
-    front_says uint_said c.args.bytes.now front.first.now c.in_ok-uint_scalar.field-0 front.data.now c.in_ok-rest.field-0.0 c.in_ok-rest.field-0.1.now (Some c.in-Uint-default.number) front.ensures.cases.0 c.in_ok-uint_scalar.ensures c.in_ok-rest.ensures (ap uint_said c.in-Uint-default.is-0)
+pub returns-in-Some-Uint-default : goal.returns-in-Some-Uint-default
+returns-in-Some-Uint-default c =
+    let front = c.in-Some in
+    front_says uint_said c.args.bytes.now front.first.now c.in-Some-uint_scalar.scalar front.data.now c.in-Some-Uint-default.field-0-0 c.in-Some-Uint-default.rest.now (Some c.in-Some-Uint-default.number) front.ensures.cases.0 c.in-Some-uint_scalar.ensures c.in-Some-Uint-default.ensures (ap uint_said c.in-Some-Uint-default.field-0-0-is)

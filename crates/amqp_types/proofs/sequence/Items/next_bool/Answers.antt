@@ -9,5 +9,8 @@ invariant_of-self c = record {
   filled = (taken_wanted boolean_said (kept_form c.args.self.now.form) c.args.self.now.left (c.args.self.now.left - 1) c.args.self.now.rest.now c.in-Some.value c.in-Some.rest.now (omega (arith, c.if-self-ne0.true)) c.args.self.now.filled (sym c.in-Some.ensures)).others;
 }
 
+pub returns-in-Some-clause-value : goal.returns-in-Some-clause-value
+returns-in-Some-clause-value c = (taken_wanted boolean_said (kept_form c.args.self.now.form) c.args.self.now.left (c.args.self.now.left - 1) c.args.self.now.rest.now c.in-Some.value c.in-Some.rest.now (omega (arith, c.if-self-ne0.true)) c.args.self.now.filled (sym c.in-Some.ensures)).value
+
 pub returns-in-Some-clause-left : goal.returns-in-Some-clause-left
 returns-in-Some-clause-left c = (taken_wanted boolean_said (kept_form c.args.self.now.form) c.args.self.now.left (c.args.self.now.left - 1) c.args.self.now.rest.now c.in-Some.value c.in-Some.rest.now (omega (arith, c.if-self-ne0.true)) c.args.self.now.filled (sym c.in-Some.ensures)).behind

@@ -12,6 +12,10 @@ invariant_of-self c = record {
   filled = (taken (kept_form c.args.self.now.form) c.args.self.now.left c.in-Some.left c.args.self.now.rest.now c.in-Some-simple_item.simple c.in-Some-simple_item.rest.now (omega (arith, c.in-Some.ensures)) c.args.self.now.filled c.in-Some-simple_item.ensures).others;
 }
 
+pub returns-in-Some-simple_item-clause-value : goal.returns-in-Some-simple_item-clause-value
+returns-in-Some-simple_item-clause-value c =
+    (taken (kept_form c.args.self.now.form) c.args.self.now.left c.in-Some.left c.args.self.now.rest.now c.in-Some-simple_item.simple c.in-Some-simple_item.rest.now (omega (arith, c.in-Some.ensures)) c.args.self.now.filled c.in-Some-simple_item.ensures).value
+
 pub returns-in-Some-simple_item-clause-left : goal.returns-in-Some-simple_item-clause-left
 returns-in-Some-simple_item-clause-left c =
     (taken (kept_form c.args.self.now.form) c.args.self.now.left c.in-Some.left c.args.self.now.rest.now c.in-Some-simple_item.simple c.in-Some-simple_item.rest.now (omega (arith, c.in-Some.ensures)) c.args.self.now.filled c.in-Some-simple_item.ensures).behind
