@@ -1,5 +1,5 @@
--- What an event says nothing of stays as it was.
-use Rattle.std.proofs.Common.{◌≡◌, refl, ap, ℕ, Bool, true, false, ◌&&◌, ◌||◌, Option, Some, None, is_some, option_and_then, if◌then◌else◌, ◌==◌}
+-- What an event says nothing of stays as it was, and what it says moves the entries of its session and its connection.
+use Rattle.std.proofs.Common.{◌≡◌, refl, sym, ap, ◌∙◌, ℕ, Bool, true, false, ◌&&◌, ◌||◌, Option, Some, None, is_some, option_and_then, if◌then◌else◌, ◌==◌, eqb-true}
 use Rattle.amqp_perf.specs.Meaning.{Meaning, AnOpen, ABegin, AnAttach, AFlow, ATransfer, ADisposition, ADetach, AnEnd, AClose}
 use Rattle.trace_events.specs.Words.{is_number}
 use Rattle.trace_events.specs.Frame.{Spoken, spoken_in}
@@ -8,7 +8,11 @@ use Rattle.trace_events.specs.declared.session.Session.{Session}
 use Rattle.trace_events.specs.Connection.{is_final}
 use Rattle.trace_events.specs.Said.{handle_in, out_begin, is_in_end, is_out_end}
 use Rattle.trace_events.proofs.EventKinds.{in_said, out_said}
-use Rattle.state_tables.specs.Links.{Counted, Asked, HandleState, attaches_in, attaches_out, detaches_in, detaches_out, handle_about, handle_of, nothing, says_of_handle, standing_behind, standing_next}
+use Rattle.state_tables.specs.Links.{Counted, Asked, HandleState, attaches_in, attaches_out, detaches_in, detaches_out, handle_about, handle_of, nothing, says_of_handle, standing_behind, standing_here, standing_next}
+use Rattle.state_tables.specs.LinkTables.{AreMovedOn, IsMoved, IsSame, standing_of, standing_on}
+use Rattle.state_tables.specs.declared.handles.Handles.{Handles}
+use Rattle.state_tables.specs.declared.channels.Channels.{Channels}
+use Rattle.state_tables.specs.EndedLinks.{ends_channel}
 use Rattle.state_counts.specs.LinkCounts.{named_handle}
 use Rattle.state_tables.proofs.EndedSteps.{about, meant, of_attach, of_detach}
 
@@ -122,6 +126,10 @@ module _ (handle : ℕ) where
 pub next-unsaid : (handle : ℕ) (e : Event) (x : HandleState) → handle_of e ≡ None → standing_next handle e x ≡ x
 next-unsaid handle e x none = next-other handle e x (ap (λ o. is_number o handle) none)
 
+-- so it leaves the entry of the session
+pub unmoved-on : (e : Event) (x : Handles) → handle_of e ≡ None → IsMoved e x x
+unmoved-on e x none handle = sym (next-unsaid handle e (standing_on x handle) none)
+
 -- and where nothing stood, nothing stands
 pub behind-nothing : (channel handle : ℕ) (e : Event) → says_of_handle e ≡ false → standing_behind channel handle e nothing ≡ nothing
 behind-nothing channel handle e silent = by (is_final e.moment) (is_number (channel_of e.moment) channel) (is_in_end e || is_out_end e || is_some (out_begin e)) e.session (handle_of e) refl silent
@@ -134,3 +142,53 @@ behind-nothing channel handle e silent = by (is_final e.moment) (is_number (chan
     by false true false None about is none = refl
     by false true false (Some s) None is none = next-unsaid handle e nothing is
     by false true false (Some s) (Some h) is none = absurd cc
+
+-- where the event stands in the entry of the handle of which it says something, it stands on the session
+pub moved-on : (e : Event) (handle : ℕ) (earlier between later : Handles) → handle_of e ≡ Some handle
+    → ((n : ℕ) → standing_on between n ≡ (if handle == n then standing_next handle e (standing_on earlier n) else standing_on earlier n))
+    → IsSame between later → IsMoved e earlier later
+moved-on e handle earlier between later said put same n = same n ∙ (put n ∙ by (handle == n) refl)
+  where
+    by : (b : Bool) → (handle == n) ≡ b → (if b then standing_next handle e (standing_on earlier n) else standing_on earlier n) ≡ standing_next n e (standing_on earlier n)
+    by true own = ap (λ k. standing_next k e (standing_on earlier n)) (eqb-true handle n own)
+    by false other = sym (next-other n e (standing_on earlier n) (ap (λ o. is_number o n) said ∙ other))
+
+-- on a channel whose session goes on, an event that says nothing of a handle leaves what stands
+here-unsaid : (handle : ℕ) (e : Event) (x : HandleState) → ends_channel e ≡ false → says_of_handle e ≡ false → standing_here handle e x ≡ x
+here-unsaid handle e x going silent = by (ends_channel e) going e.session (handle_of e) refl silent
+  where
+    by : (ended : Bool) → ended ≡ false → (session : Option Session) (about : Option ℕ) → handle_of e ≡ about → is_some session && is_some about ≡ false
+        → (if ended then nothing else if is_some session then standing_next handle e x else x) ≡ x
+    by true never session about is none = absurd cc
+    by false going None about is none = refl
+    by false going (Some s) None is none = next-unsaid handle e x is
+    by false going (Some s) (Some h) is none = absurd cc
+
+-- and so it leaves the entry of the connection
+pub unsaid-on : (channel : ℕ) (e : Event) (x : Channels) → ends_channel e ≡ false → says_of_handle e ≡ false → AreMovedOn channel e x x
+unsaid-on channel e x going silent n handle = by (channel == n)
+  where
+    by : (b : Bool) → standing_of x n handle ≡ (if b then standing_here handle e (standing_of x n handle) else standing_of x n handle)
+    by true = sym (here-unsaid handle e (standing_of x n handle) going silent)
+    by false = refl
+
+-- one that says something of a handle moves what stands of it
+here-said : (handle : ℕ) (e : Event) (x : HandleState) → ends_channel e ≡ false → says_of_handle e ≡ true → standing_next handle e x ≡ standing_here handle e x
+here-said handle e x going said = by (ends_channel e) going e.session (handle_of e) said
+  where
+    by : (ended : Bool) → ended ≡ false → (session : Option Session) (about : Option ℕ) → is_some session && is_some about ≡ true
+        → standing_next handle e x ≡ (if ended then nothing else if is_some session then standing_next handle e x else x)
+    by true never session about said = absurd cc
+    by false going None about said = absurd cc
+    by false going (Some s) about said = refl
+
+-- and so it moves the entry of the connection, where it stands in that of its session
+pub said-on : (channel : ℕ) (e : Event) (earlier later : Channels) → ends_channel e ≡ false → says_of_handle e ≡ true
+    → ((n handle : ℕ) → standing_of later n handle ≡ (if channel == n then standing_next handle e (standing_of earlier n handle) else standing_of earlier n handle))
+    → AreMovedOn channel e earlier later
+said-on channel e earlier later going said put n handle = put n handle ∙ by (channel == n)
+  where
+    by : (b : Bool) → (if b then standing_next handle e (standing_of earlier n handle) else standing_of earlier n handle)
+        ≡ (if b then standing_here handle e (standing_of earlier n handle) else standing_of earlier n handle)
+    by true = here-said handle e (standing_of earlier n handle) going said
+    by false = refl

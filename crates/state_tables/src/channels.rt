@@ -8,6 +8,7 @@ ghost use Rattle.state_tables.specs.Links.{nothing, says_of_handle, standing_nex
 ghost use Rattle.state_tables.specs.LinkTables.{AreEmpty, AreMoved, AreMovedOn, AreSame, standing_of};
 ghost use Rattle.trace_values.specs.View.{event_view};
 
+use crate::ended_links::ends_channel;
 use crate::handle::Handle;
 use crate::handles::{Handles, handle_of};
 use number_map::NumberMap;
@@ -82,13 +83,24 @@ impl Channels {
         ensures unchanged { OnErr result (AreSame self.old self.new) }
         ensures said { OnErr result (says_of_handle (event_view event.now) ≡ true) }
     {
-        if event.is_in_end() || event.is_out_end() || event.out_begin().is_some() {
+        if ends_channel(event) {
             self.entries.swap_remove(&channel);
             return Ok(());
         }
         if !says_of_handle(event) {
             return Ok(());
         }
+        self.put(channel, event)?;
+        Ok(())
+    }
+
+    /// The event, which says something of a handle, stands in the entry of its session.
+    #[inline(always)]
+    fn put(&mut self, channel: u16, event: &Event) -> Result<(), AllocError>
+        ensures taken { OnOk result ((n handle : ℕ) → standing_of self.new n handle
+            ≡ (if channel == n then standing_next handle (event_view event.now) (standing_of self.old n handle) else standing_of self.old n handle)) }
+        ensures unchanged { OnErr result (AreSame self.old self.new) }
+    {
         match self.entries.get_mut(&channel) {
             Some(session) => session.take(event),
             None => self.put_first(channel, event),

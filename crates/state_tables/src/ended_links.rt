@@ -20,7 +20,8 @@ use std::alloc::{AllocError, Global};
 use trace_values::{Body, Event, Link, Moment};
 
 /// A session of the event's channel ends with it, or another begins there.
-fn ends_channel(event: &Event) -> bool
+#[inline(always)]
+pub(crate) fn ends_channel(event: &Event) -> bool
     ensures { result ≡ ends_channel (event_view event.now) }
 {
     event.is_in_end() || event.is_out_end() || event.out_begin().is_some()

@@ -81,12 +81,21 @@ impl Handles {
         let Some(handle) = handle_of(event) else {
             return Ok(());
         };
-        match self.entries.get_mut(&handle) {
-            Some(entry) => entry.take(self.alloc, handle, event)?,
-            None => self.put_first(handle, event)?,
-        }
+        self.put(handle, event)?;
         self.forget(handle);
         Ok(())
+    }
+
+    /// The event, which says something of the handle, stands in its entry.
+    #[inline(always)]
+    fn put(&mut self, handle: u32, event: &Event) -> Result<(), AllocError>
+        ensures taken { OnOk result ((n : ℕ) → standing_on self.new n ≡ (if handle == n then standing_next handle (event_view event.now) (standing_on self.old n) else standing_on self.old n)) }
+        ensures unchanged { OnErr result (IsSame self.old self.new) }
+    {
+        match self.entries.get_mut(&handle) {
+            Some(entry) => entry.take(self.alloc, handle, event),
+            None => self.put_first(handle, event),
+        }
     }
 
     /// The event is the first that says something of the handle.

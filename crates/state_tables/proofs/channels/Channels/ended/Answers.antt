@@ -1,5 +1,5 @@
 use Rattle.std.proofs.Common.{sym, Result, Ok, Err, IfOk, OnOk}
-use Rattle.trace_values.specs.View.{event_view}
+use Rattle.trace_events.specs.View.{event_view}
 use Rattle.state_tables.specs.EndedLinks.{views}
 use Rattle.state_tables.proofs.EndedTables.{all-over, session-ended}
 use Rattle.state_tables.proofs.channels.Channels.ended.Goals as goal

@@ -1,5 +1,5 @@
 use Rattle.std.proofs.Common.{ap, sym, ◌∙◌, ◌++◌}
-use Rattle.trace_values.specs.View.{event_view}
+use Rattle.trace_events.specs.View.{event_view}
 use Rattle.state_tables.specs.EndedLinks.{links_on, views}
 use Rattle.state_tables.proofs.EndedTables.{all-ended}
 use Rattle.state_tables.proofs.handles.Handles.ended.Goals as goal

@@ -1,6 +1,6 @@
 use Rattle.std.proofs.Common.{ap, ◌∙◌, ◌∷◌, []}
 use Rattle.std.proofs.lemmas.List.{map-append}
-use Rattle.trace_values.specs.View.{link_view}
+use Rattle.trace_events.specs.View.{link_view}
 use Rattle.state_tables.specs.EndedLinks.{views}
 use Rattle.state_tables.specs.Links.{link_of}
 use Rattle.state_tables.proofs.EndedMembers.{passed, pushed}
