@@ -20,6 +20,12 @@ or-cond : (a b : Bool) → cond a true b ≡ a || b
 or-cond true b = refl
 or-cond false b = refl
 
+pub or-swapped : (a b : Bool) → (a || b) ≡ (b || a)
+or-swapped true true = refl
+or-swapped true false = refl
+or-swapped false true = refl
+or-swapped false false = refl
+
 and-cond : (a b : Bool) → cond a false b ≡ b && not a
 and-cond true true = refl
 and-cond true false = refl

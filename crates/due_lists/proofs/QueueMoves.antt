@@ -43,6 +43,13 @@ pushed {A = A} m n key w number changed items at = ap queued (changed at) ∙ by
     by true same = items ∙ ap (λ (o : Option (VecDeque ℕ A)). queued o ++ number ∷ []) (sym (alike m key at same))
     by false other = refl
 
+-- what stands under a key that was written
+pub here : {A : Type 0} (key : List ℕ) (queue : VecDeque ℕ A) (o : Option (VecDeque ℕ A)) → cond (bytes_eq key key) (Some queue) o ≡ Some queue
+here key queue o = ap (λ b. cond b (Some queue) o) (bytes_eq-self key)
+  where
+    bytes_eq-self : (xs : List ℕ) → bytes_eq xs xs ≡ true
+    bytes_eq-self xs = (bytes_eq-Decides xs xs).1 refl
+
 append-nil : {A : Type 0} (xs : List A) → xs ≡ xs ++ []
 append-nil [] = refl
 append-nil (x ∷ xs) = ap (λ ys. x ∷ ys) (append-nil xs)
@@ -173,6 +180,18 @@ module _ (rules : RuleSet) (past : List Event) (are : AreJudged rules past) (tab
       by true same =
           let old-items : old.items ≡ queued (under m at) = ap queued (value ∙ sym (alike m key at same)) in
           shorter-at at old.items new.items (subst (IsQueue rules past at) (sym old-items) (queues at)) is
+      by false other = queues at
+
+  -- an address of which no number is left goes
+  pub emptied-queues : {A S Z : Type 0} (m n : IndexMap (Vec ℕ Z) (VecDeque ℕ A) S) (key : List ℕ) → queued (under m key) ≡ [] → ((at : List ℕ) → under n at ≡ cond (bytes_eq key at) None (under m at))
+      → ((at : List ℕ) → IsQueue rules past at (queued (under m at))) → (at : List ℕ) → IsQueue rules past at (queued (under n at))
+  emptied-queues {A = A} m n key none changed queues at = subst (IsQueue rules past at) (sym (ap queued (changed at))) (by (bytes_eq key at) refl)
+    where
+      gone : Option (VecDeque ℕ A)
+      gone = None
+
+      by : (b : Bool) → bytes_eq key at ≡ b → IsQueue rules past at (queued (cond b gone (under m at)))
+      by true same = subst (IsQueue rules past at) (ap queued (alike m key at same) ∙ none) (queues at)
       by false other = queues at
 
   -- the first number of a queue, if its delivery waits

@@ -21,4 +21,8 @@ is_among_first to_try n address = list_any (λ kept. bytes_eq address kept.items
 
 -- none went
 abbrev pub IsKept : AddressesToTry → AddressesToTry → Type 0
+-- the link is to this address
+abbrev pub is_link_to : List ℕ → values.Link → Bool
+is_link_to address link = bytes_eq (link_view link).address address
+
 IsKept earlier later = (address : List ℕ) → is_to_try earlier address ≡ true → is_to_try later address ≡ true

@@ -1,5 +1,6 @@
 //! The addresses to look at.
 
+ghost use Rattle.std.specs.List.{list_any};
 ghost use Rattle.std.specs.Prelude.{◌≡◌, ◌+◌, ◌<◌, ◌&&◌, ◌||◌, ◌↔◌, ℕ, List, Some, IfSome, IsSome, OnOk, bytes_eq, false, is_some, not, option_and_then, option_map, true};
 ghost use Rattle.capture_form.specs.Rules.{RuleSet};
 ghost use Rattle.trace_events.specs.Event as law;
@@ -13,7 +14,7 @@ ghost use Rattle.state_tables.specs.ConsumerLinks.{consumer_at, link_in};
 ghost use Rattle.state_answers.specs.Tables.{TellsOf};
 ghost use Rattle.due_lists.specs.Standing.{goes_on, grants_window, has_window};
 ghost use Rattle.due_lists.specs.BySession.{stands};
-ghost use Rattle.due_lists.specs.AddressesToTry.{IsKept, address_at, count_of, is_among_first, is_to_try};
+ghost use Rattle.due_lists.specs.AddressesToTry.{IsKept, address_at, count_of, is_among_first, is_link_to, is_to_try};
 ghost use Rattle.due_lists.specs.Waking.{IsGranted};
 
 use crate::by_session::BySession;
@@ -66,8 +67,9 @@ impl AddressesToTry {
     }
 
     /// Those come in at which a delivery may begin by what the event does: it completes one there, gives a link of a
-    /// consumer credit, ends the delivery on it, or gives window to its session, which had none. What it completes is for
-    /// this address; `links` are the live links of consumers, `before` the tables without the event.
+    /// consumer credit, ends the delivery on it, or gives window to its session, which had none; and those of the links that it
+    /// ends, where what waited may be over. What it completes is for this address; `links` are the live links of consumers,
+    /// `before` the tables without the event.
     ///
     /// # Errors
     ///
@@ -78,6 +80,7 @@ impl AddressesToTry {
         address: &[u8],
         links: &BySession,
         before: &LentTables<'_>,
+        ended: &[Link],
     ) -> Result<(), AllocError>
         ensures completed { OnOk result ((d : law.Incoming) → completed_by (event_view event.now) ≡ Some d → is_to_try self.new address.now ≡ true) }
         ensures credited { OnOk result ((l : law.Link) → (event_view event.now).link ≡ Some l → is_consumer l ≡ true →
@@ -87,12 +90,25 @@ impl AddressesToTry {
         ensures granted { OnOk result ((rules : RuleSet) (past : Events) → TellsOf rules before.now past → (l : law.Link) →
             IsGranted (event_view event.now) past l → stands links.now l.session.number l.number ≡ true → consumer_at l.number past ≡ Some l →
             is_to_try self.new l.address ≡ true) }
+        ensures ended { OnOk result ((at : List ℕ) → list_any (is_link_to at) ended.now ≡ true → is_to_try self.new at ≡ true) }
         ensures kept { OnOk result (IsKept self.old self.new) }
     {
+        self.add_ended(ended)?;
         self.add(completed(event, address))?;
         self.add(credited(event))?;
         self.add(freed(event))?;
         self.wake_session(granted(event, before), links, before.consumer_links)?;
+        Ok(())
+    }
+
+    /// The addresses of these links come in.
+    fn add_ended(&mut self, ended: &[Link]) -> Result<(), AllocError>
+        ensures ended { OnOk result ((at : List ℕ) → is_to_try self.new at ≡ (is_to_try self.old at || list_any (is_link_to at) ended.now)) }
+        ensures kept { OnOk result (IsKept self.old self.new) }
+    {
+        for link in ended {
+            self.insert(link.address)?;
+        }
         Ok(())
     }
 

@@ -26,7 +26,7 @@ use std::collections::VecDeque;
 use trace_values::{Event, Incoming, has_multicast};
 
 /// The numbers of the deliveries that wait at each address, the first completed first. One that waits no more stays until it
-/// comes to the front and is asked for.
+/// comes to the front and is asked for; an address goes with its last number.
 #[derive(Drop)]
 pub struct Queues {
     alloc: Global,
@@ -125,7 +125,8 @@ impl Queues {
         Ok(())
     }
 
-    /// The delivery that was completed first of those that wait at the address. Those in front of it, which wait no more, go.
+    /// The delivery that was completed first of those that wait at the address. Those in front of it, which wait no more, go, and
+    /// the address where none is left.
     pub fn first<'t>(&mut self, address: &[u8], tables: &LentTables<'t>) -> Option<Incoming<'t>>
         ensures kept { (rules : RuleSet) (records : List Record) → TellsOf rules tables.now (history rules records) →
             HaveQueues rules self.old (history rules records) → HaveQueues rules self.new (history rules records) }
@@ -139,6 +140,7 @@ impl Queues {
             return None;
         };
         let Some(number) = first_waiting(queue, tables.deliveries) else {
+            let _ = self.entries.swap_remove(address);
             return None;
         };
         tables.deliveries.kept(Some(number))

@@ -74,8 +74,10 @@ impl Waiting {
     {
         self.picks.follow(rules, event, before, effects)?;
         self.queues.follow(rules, event, address)?;
-        self.to_try.wake(event, address, &self.links, before)?;
-        self.links.end(effects.ended());
+        let ended = effects.ended();
+        self.to_try
+            .wake(event, address, &self.links, before, ended)?;
+        self.links.end(ended);
         self.links.open(event)?;
         Ok(())
     }

@@ -1,4 +1,4 @@
-use Rattle.std.proofs.Common.{◌≡◌, List, ℕ, ap, sym, subst, rules, None, Some, bytes_eq, option_map}
+use Rattle.std.proofs.Common.{◌≡◌, ◌∙◌, List, [], ℕ, ap, sym, subst, rules, None, Some, bytes_eq, option_map}
 use Rattle.indexmap.specs.IndexMap.{get_by}
 use Rattle.number_groups.proofs.Octets.{changed, under}
 use Rattle.trace_events.specs.History.{history}
@@ -6,7 +6,7 @@ use Rattle.trace_events.proofs.Judged.{history-judged}
 use Rattle.trace_values.specs.View.{incoming_view}
 use Rattle.due_lists.specs.Queues.{queued, IsQueue}
 use Rattle.due_lists.proofs.QueueLists.{none-waits}
-use Rattle.due_lists.proofs.QueueMoves.{chosen, moved-queues, shorter-at}
+use Rattle.due_lists.proofs.QueueMoves.{chosen, emptied-queues, here, moved-queues, shorter-at}
 use Rattle.due_lists.proofs.queues.Queues.first.Goals as goal
 
 pub returns-in_default-clause-none : goal.returns-in_default-clause-none
@@ -21,8 +21,12 @@ returns-in_default-first_waiting-clause-kept c = λ rs records tables queues.
     let key = c.args.address.now in
     let m = c.args.self.now.entries in
     let n = c.get_mut.follows.lender c.first_waiting.new.queue in
-    moved-queues rs (history rs records) (history-judged rs records) c.args.tables.now.deliveries.now tables.1.1.1.1.0 m n key c.in-Some.queue.now c.first_waiting.new.queue c.in-Some.ensures.value
-    (changed m n key (Some c.first_waiting.new.queue) ((c.get_mut.follows.holds c.first_waiting.new.queue).3 (search rules))) c.first_waiting.ensures.shorter queues
+    let moved = changed m n key (Some c.first_waiting.new.queue) ((c.get_mut.follows.holds c.first_waiting.new.queue).3 (search rules)) in
+    let none : queued (under n key) ≡ [] = ap queued (moved key ∙ here key c.first_waiting.new.queue (under m key)) ∙ c.first_waiting.ensures.none c.in_default-first_waiting.is in
+    emptied-queues rs (history rs records) (history-judged rs records) c.args.tables.now.deliveries.now tables.1.1.1.1.0 n c.swap_remove.new.self key none
+    (changed n c.swap_remove.new.self key None c.swap_remove.ensures.updates)
+    (moved-queues rs (history rs records) (history-judged rs records) c.args.tables.now.deliveries.now tables.1.1.1.1.0 m n key c.in-Some.queue.now c.first_waiting.new.queue c.in-Some.ensures.value moved
+    c.first_waiting.ensures.shorter queues)
 
 pub returns-in_default-first_waiting-clause-none :
     goal.returns-in_default-first_waiting-clause-none

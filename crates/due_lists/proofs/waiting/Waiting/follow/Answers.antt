@@ -16,7 +16,7 @@ returns c = λ records r next own tables does has.
     let e = event_view c.args.event.now in
     let past = history rules records in
     let Ended : List Link → Type 0 = λ links. AreEnded e past (views links) in
-    let have = have-waiting rules e past ((r, next.0), history-judged rules records) next.1 (views c.ended.result.now) (subst Ended (sym c.ended.ensures) does.ended)
+    let have = have-waiting rules e past ((r, next.0), history-judged rules records) next.1 (views c.ended-ended.result.now) (subst Ended (sym c.ended-ended.ensures) does.ended)
     (stands c.args.self.now.links) (stands c.end.new.self) (stands c.open.new.self) (is_to_try c.args.self.now.to_try) (is_to_try c.wake.new.self)
     (completed-wakes (is_to_try c.wake.new.self) (e ∷ past) c.args.address.now (completed_by e) own c.in_ok-wake.ensures.completed) c.in_ok-wake.ensures.credited c.in_ok-wake.ensures.freed (λ l. c.in_ok-wake.ensures.granted rules past tables l) c.in_ok-wake.ensures.kept
     c.end.ensures c.in_ok-open.ensures.opened c.in_ok-open.ensures.stood (record { stands = has.stands; to_try = has.to_try }) in
