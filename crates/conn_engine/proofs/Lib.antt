@@ -13,4 +13,5 @@ mod Putting
 mod Serves
 mod NotedOn
 pub mod ServedOn
+mod CauseExamples
 mod ScriptExamples

@@ -22,14 +22,14 @@ use Rattle.conn_engine.specs.declared.serving.Motion.{Motion}
 use Rattle.conn_engine.specs.declared.serving.Motion.TheVariants as motions
 use Rattle.conn_engine.specs.declared.script.Script.{Script}
 use Rattle.conn_engine.specs.Scripts.{StandsFor, octets_taken}
-use Rattle.conn_engine.specs.Served.{HasCause, IsNoted, IsOpen, IsOverFor, IsServed, IsServing, LineHolds, status_after, stop_of}
+use Rattle.conn_engine.specs.Served.{HasCause, IsNoted, IsOpen, IsOverFor, IsServed, IsServedAsNoted, IsServing, LineHolds, status_after, stop_of}
 use Rattle.conn_engine.proofs.Laced.{stands_taken}
 use Rattle.conn_engine.proofs.Serves.{serving_gone, serving_new}
 
-pub open_new : {G : Type 0} (Delivered Took : G → List ℕ → Type 0) (gate : G) (number : ℕ) (idle : Bool) (items : List What) (frames : List (List ℕ)) (e : Connection) (script : Script)
+pub open_new : {G : Type 0} (Delivered Took : G → List ℕ → Type 0) (gate : G) (number : ℕ) (idle : Bool) (items : List What) (frames : List (List ℕ)) (e : Connection) (Stands : List ℕ → List ℕ → List ℕ → Type 0)
     → e ≡ record { number = number; items = items; frames = frames; ahead = record { phase = FirstHeader; octets = [] }; waiting = []; is_idle = idle; frame_ends = no_frame_ends; place = Reading; time_out = None; silence = no_silence }
-    → items ≡ [] → frames ≡ [] → StandsFor script [] [] [] → Delivered gate [] → Took gate [] → IsOpen Delivered Took gate e script
-open_new Delivered Took gate number idle items frames e script is no_items no_frames stands delivered took = record {
+    → items ≡ [] → frames ≡ [] → Stands [] [] [] → Delivered gate [] → Took gate [] → IsOpen Delivered Took gate e Stands
+open_new Delivered Took gate number idle items frames e Stands is no_items no_frames stands delivered took = record {
   octets = [];
   taken = [];
   delivered = delivered;
@@ -37,28 +37,28 @@ open_new Delivered Took gate number idle items frames e script is no_items no_fr
   noted = record {
     serving = serving_new number idle items frames e is no_items no_frames;
     stands =
-        subst (λ (c : Connection). StandsFor script (concat c.frames) [] c.waiting) (sym is)
-        (subst (λ (t : List (List ℕ)). StandsFor script (concat t) [] []) (sym no_frames) stands);
+        subst (λ (c : Connection). Stands (concat c.frames) [] c.waiting) (sym is)
+        (subst (λ (t : List (List ℕ)). Stands (concat t) [] []) (sym no_frames) stands);
   };
 }
 
 -- the gate did something else
-pub open_kept : {G : Type 0} (Delivered Took : G → List ℕ → Type 0) (gate later : G) (e : Connection) (script : Script) → KeepsTold Delivered gate later → KeepsTold Took gate later
-    → IsOpen Delivered Took gate e script → IsOpen Delivered Took later e script
-open_kept Delivered Took gate later e script delivered took h =
+pub open_kept : {G : Type 0} (Delivered Took : G → List ℕ → Type 0) (gate later : G) (e : Connection) (Stands : List ℕ → List ℕ → List ℕ → Type 0) → KeepsTold Delivered gate later → KeepsTold Took gate later
+    → IsOpen Delivered Took gate e Stands → IsOpen Delivered Took later e Stands
+open_kept Delivered Took gate later e Stands delivered took h =
     record { octets = h.octets; taken = h.taken; delivered = delivered h.octets h.delivered; took = took h.taken h.took; noted = h.noted }
 
 -- the engine did something that moves no octets
-pub open_noted : {G : Type 0} (Delivered Took : G → List ℕ → Type 0) (gate : G) (before after : Connection) (script later : Script)
-    → ((octets taken : List ℕ) → IsNoted before script octets taken → IsNoted after later octets taken) → IsOpen Delivered Took gate before script → IsOpen Delivered Took gate after later
-open_noted Delivered Took gate before after script later noted h =
+pub open_noted : {G : Type 0} (Delivered Took : G → List ℕ → Type 0) (gate : G) (before after : Connection) (Was Is : List ℕ → List ℕ → List ℕ → Type 0)
+    → ((octets taken : List ℕ) → IsNoted before Was octets taken → IsNoted after Is octets taken) → IsOpen Delivered Took gate before Was → IsOpen Delivered Took gate after Is
+open_noted Delivered Took gate before after Was Is noted h =
     record { octets = h.octets; taken = h.taken; delivered = h.delivered; took = h.took; noted = noted h.octets h.taken h.noted }
 
 -- it took octets
-pub open_written : {G : Type 0} (Delivered Took : G → List ℕ → Type 0) (gate done : G) (before after : Connection) (script later : Script) (n : ℕ) → KeepsTold Delivered gate done
-    → TellsMore Took (take n before.waiting) gate done → ((octets taken : List ℕ) → IsNoted before script octets taken → IsNoted after later octets (taken ++ take n before.waiting))
-    → IsOpen Delivered Took gate before script → IsOpen Delivered Took done after later
-open_written Delivered Took gate done before after script later n delivered took noted h = record {
+pub open_written : {G : Type 0} (Delivered Took : G → List ℕ → Type 0) (gate done : G) (before after : Connection) (Was Is : List ℕ → List ℕ → List ℕ → Type 0) (n : ℕ) → KeepsTold Delivered gate done
+    → TellsMore Took (take n before.waiting) gate done → ((octets taken : List ℕ) → IsNoted before Was octets taken → IsNoted after Is octets (taken ++ take n before.waiting))
+    → IsOpen Delivered Took gate before Was → IsOpen Delivered Took done after Is
+open_written Delivered Took gate done before after Was Is n delivered took noted h = record {
   octets = h.octets;
   taken = h.taken ++ take n before.waiting;
   delivered = delivered h.octets h.delivered;
@@ -67,10 +67,10 @@ open_written Delivered Took gate done before after script later n delivered took
 }
 
 -- it delivered octets, which were fed
-pub open_fed : {G : Type 0} (Delivered Took : G → List ℕ → Type 0) (gate done : G) (before after : Connection) (script later : Script) (piece : List ℕ) → TellsMore Delivered piece gate done
-    → KeepsTold Took gate done → ((octets taken : List ℕ) → IsNoted before script octets taken → IsNoted after later (octets ++ piece) taken)
-    → IsOpen Delivered Took gate before script → IsOpen Delivered Took done after later
-open_fed Delivered Took gate done before after script later piece delivered took noted h = record {
+pub open_fed : {G : Type 0} (Delivered Took : G → List ℕ → Type 0) (gate done : G) (before after : Connection) (Was Is : List ℕ → List ℕ → List ℕ → Type 0) (piece : List ℕ) → TellsMore Delivered piece gate done
+    → KeepsTold Took gate done → ((octets taken : List ℕ) → IsNoted before Was octets taken → IsNoted after Is (octets ++ piece) taken)
+    → IsOpen Delivered Took gate before Was → IsOpen Delivered Took done after Is
+open_fed Delivered Took gate done before after Was Is piece delivered took noted h = record {
   octets = h.octets ++ piece;
   taken = h.taken;
   delivered = delivered h.octets h.delivered;
@@ -82,8 +82,7 @@ open_fed Delivered Took gate done before after script later piece delivered took
 over_cause : (place : EngineState) (has_ended : Bool) (ahead : Ahead) (frames : List (List ℕ)) (waiting : List ℕ) → is_over place ≡ true → waiting ≡ [] → IsOverFor place ahead frames → HasCause has_ended ahead frames waiting
 over_cause Reading has_ended ahead frames waiting is none over = absurd cc
 over_cause Closing has_ended ahead frames waiting is none over = absurd cc
-over_cause (Over Untold) has_ended ahead frames waiting is none (inl over) = inr (inl over)
-over_cause (Over Untold) has_ended ahead frames waiting is none (inr over) = inr (inr (over, none))
+over_cause (Over Untold) has_ended ahead frames waiting is none over = inr (over, none)
 over_cause (Over Told) has_ended ahead frames waiting is none over = absurd over
 over_cause (Over Refused) has_ended ahead frames waiting is none over = absurd over
 
@@ -118,21 +117,29 @@ taken_gone Delivered Took ended gate later before after octets taken result why 
       cause = subst (λ (t : List (List ℕ)). HasCause (ended later) before.ahead t before.waiting) (sym told.1) (cause before.place (ended gate) (ended later) before.ahead before.frames before.waiting same why h.over);
     }
 
-pub served_gone : {G : Type 0} (Delivered Took : G → List ℕ → Type 0) (ended : G → Bool) (gate later : G) (before after : Connection) (script : Script) (result : Result Unit EngineFault)
+pub served_gone : {G : Type 0} (Delivered Took : G → List ℕ → Type 0) (ended : G → Bool) (gate later : G) (before after : Connection) (Stands : List ℕ → List ℕ → List ℕ → Type 0) (result : Result Unit EngineFault)
     → (ended gate ≡ true) ⊎ ((is_over before.place ≡ true) × (before.waiting ≡ [])) → AfterLoss (is_loss_due before.ahead.phase before.place) before after result → stop_of result ≡ None
-    → KeepsTold Delivered gate later → KeepsTold Took gate later → ended later ≡ ended gate → IsOpen Delivered Took gate before script
-    → IsServed Delivered Took ended later after.items after.frames (octets_taken script after.frames)
-served_gone Delivered Took ended gate later before after script result why did goes delivered took same h =
+    → KeepsTold Delivered gate later → KeepsTold Took gate later → ended later ≡ ended gate → IsOpen Delivered Took gate before Stands
+    → IsServedAsNoted Delivered Took ended later after.items after.frames Stands
+served_gone Delivered Took ended gate later before after Stands result why did goes delivered took same h =
     let told = serving_gone before after h.octets h.taken result did goes h.noted.serving in
-    let exact : octets_taken script after.frames ≡ h.taken =
-    ap (λ (t : List (List ℕ)). octets_taken script t) told.1 ∙ stands_taken script before.frames h.taken before.waiting h.noted.stands in
-    subst (λ (t : List ℕ). IsServed Delivered Took ended later after.items after.frames t) (sym exact)
-    (taken_gone Delivered Took ended gate later before after h.octets h.taken result why did goes (delivered h.octets h.delivered) (took h.taken h.took) same h.noted.serving)
+    record {
+      taken = h.taken;
+      waiting = before.waiting;
+      stands = subst (λ (t : List (List ℕ)). Stands (concat t) h.taken before.waiting) (sym told.1) h.noted.stands;
+      served = taken_gone Delivered Took ended gate later before after h.octets h.taken result why did goes (delivered h.octets h.delivered) (took h.taken h.took) same h.noted.serving;
+    }
+
+-- the octets for which a script stands are those that it tells
+pub served_by_script : {G : Type 0} (Delivered Took : G → List ℕ → Type 0) (ended : G → Bool) (gate : G) (items : List What) (frames : List (List ℕ)) (script : Script)
+    → IsServedAsNoted Delivered Took ended gate items frames (StandsFor script) → IsServed Delivered Took ended gate items frames (octets_taken script frames)
+served_by_script Delivered Took ended gate items frames script h =
+    subst (λ (t : List ℕ). IsServed Delivered Took ended gate items frames t) (sym (stands_taken script frames h.taken h.waiting h.stands)) h.served
 
 -- a line that goes on
-pub line_open : {G : Type 0} (Delivered Took : G → List ℕ → Type 0) (ended : G → Bool) (turn : Turn) (gate : G) (e : Connection) (script : Script) → status_after turn ≡ Open
-    → IsOpen Delivered Took gate e script → LineHolds Delivered Took ended (status_after turn) gate e script
-line_open Delivered Took ended turn gate e script is h = subst (λ (s : Status). LineHolds Delivered Took ended s gate e script) (sym is) h
+pub line_open : {G : Type 0} (Delivered Took : G → List ℕ → Type 0) (ended : G → Bool) (turn : Turn) (gate : G) (e : Connection) (Stands : List ℕ → List ℕ → List ℕ → Type 0) → status_after turn ≡ Open
+    → IsOpen Delivered Took gate e Stands → LineHolds Delivered Took ended (status_after turn) gate e Stands
+line_open Delivered Took ended turn gate e Stands is h = subst (λ (s : Status). LineHolds Delivered Took ended s gate e Stands) (sym is) h
 
 -- why one does not
 pub why_ended : {B : Type 0} (motion : Motion) (has_ended : Bool) → (motion ≡ motions.Gone → has_ended ≡ true) → (motion ≡ motions.Gone) ⊎ B → (has_ended ≡ true) ⊎ B

@@ -13,7 +13,6 @@ use Rattle.conn_engine.specs.Lacing.{IsPut}
 use Rattle.conn_engine.specs.Said.{is_close}
 use Rattle.conn_engine.specs.Serving.{Connection}
 use Rattle.conn_engine.specs.Silence.{is_asked, time_out_after}
-use Rattle.conn_engine.specs.declared.script.Script.{Script}
 use Rattle.conn_engine.specs.declared.serving.Status.{Status}
 use Rattle.conn_engine.specs.declared.serving.Status.TheVariants.{Open, Ended, Failed}
 use Rattle.conn_engine.specs.declared.serving.Stop.{Stop}
@@ -22,7 +21,6 @@ use Rattle.conn_engine.specs.declared.serving.Turn.{Turn}
 use Rattle.conn_engine.specs.declared.serving.Turn.TheVariants as turns
 use Rattle.conn_engine.specs.declared.serving.Motion.{Motion}
 use Rattle.conn_engine.specs.declared.serving.Motion.TheVariants.{Moved, Still, Gone}
-use Rattle.conn_engine.specs.Scripts.{StandsFor, octets_taken}
 use Rattle.conn_engine.specs.Streams.{IsStopped, IsStream, IsTurnedAway, IsUnfinished, IsWritten, loss_at}
 
 -- ---- an engine that serves
@@ -54,25 +52,29 @@ pub record IsServing (e : Connection) (octets taken : List ℕ) : Type 0 where
   pub behind : (e.ahead.phase ≡ phases.Open) ⊎ (e.frames ≡ [])
   pub over : IsOverFor e.place e.ahead e.frames
 
--- the same, and a script stands for the octets that the device took
-pub record IsNoted (e : Connection) (script : Script) (octets taken : List ℕ) : Type 0 where
+-- the same, and what is noted stands for the octets of the frames, for those that the device took, and for those that wait
+pub record IsNoted (e : Connection) (Stands : List ℕ → List ℕ → List ℕ → Type 0) (octets taken : List ℕ) : Type 0 where
   pub serving : IsServing e octets taken
-  pub stands : StandsFor script (concat e.frames) taken e.waiting
+  pub stands : Stands (concat e.frames) taken e.waiting
+
+-- where nothing is noted, that stands for all octets
+abbrev pub NothingNoted : List ℕ → List ℕ → List ℕ → Type 0
+NothingNoted framed taken waiting = Unit {0}
 
 -- ---- a gate and its engine
 
--- the engine was fed what the gate delivered, and the gate took the octets of it for which the script stands
-pub record IsOpen {G : Type 0} (Delivered Took : G → List ℕ → Type 0) (gate : G) (e : Connection) (script : Script) : Type 0 where
+-- the engine was fed what the gate delivered, and the gate took the octets of it for which what is noted stands
+pub record IsOpen {G : Type 0} (Delivered Took : G → List ℕ → Type 0) (gate : G) (e : Connection) (Stands : List ℕ → List ℕ → List ℕ → Type 0) : Type 0 where
   pub octets : List ℕ
   pub taken : List ℕ
   pub delivered : Delivered gate octets
   pub took : Took gate taken
-  pub noted : IsNoted e script octets taken
+  pub noted : IsNoted e Stands octets taken
 
--- why a connection has ended: its gate answered End or Fault; or its engine was over, since the client was turned away, or
--- since a close is among the frames and the gate took them all
+-- why a connection has ended: its gate answered End or Fault; or its engine was over, since the client was turned away or a close
+-- is among the frames, and the gate had taken all that it had to give
 abbrev pub HasCause : Bool → Ahead → List (List ℕ) → List ℕ → Type 0
-HasCause has_ended ahead frames waiting = (has_ended ≡ true) ⊎ IsTurnedAway ahead ⊎ (HasClose frames × (waiting ≡ []))
+HasCause has_ended ahead frames waiting = (has_ended ≡ true) ⊎ ((IsTurnedAway ahead ⊎ HasClose frames) × (waiting ≡ []))
 
 -- What came of a connection: the items are those of all that its gate delivered, and the loss, where it was opened; what the
 -- gate took, and what waits, is the answers and then the frames that it was given, with empty ones between them where the
@@ -92,11 +94,18 @@ pub record IsServed {G : Type 0} (Delivered Took : G → List ℕ → Type 0) (e
   pub given : taken ++ waiting ≡ answers ++ put
   pub cause : HasCause (ended gate) ahead frames waiting
 
+-- the same of octets for which what is noted stands
+pub record IsServedAsNoted {G : Type 0} (Delivered Took : G → List ℕ → Type 0) (ended : G → Bool) (gate : G) (items : List What) (frames : List (List ℕ)) (Stands : List ℕ → List ℕ → List ℕ → Type 0) : Type 0 where
+  pub taken : List ℕ
+  pub waiting : List ℕ
+  pub stands : Stands (concat frames) taken waiting
+  pub served : IsServed Delivered Took ended gate items frames taken
+
 -- what holds of a line, by how far it is
-abbrev pub LineHolds : {G : Type 0} → (G → List ℕ → Type 0) → (G → List ℕ → Type 0) → (G → Bool) → Status → G → Connection → Script → Type 0
-LineHolds Delivered Took ended Open gate e script = IsOpen Delivered Took gate e script
-LineHolds Delivered Took ended Ended gate e script = IsServed Delivered Took ended gate e.items e.frames (octets_taken script e.frames)
-LineHolds Delivered Took ended Failed gate e script = Unit {0}
+abbrev pub LineHolds : {G : Type 0} → (G → List ℕ → Type 0) → (G → List ℕ → Type 0) → (G → Bool) → Status → G → Connection → (List ℕ → List ℕ → List ℕ → Type 0) → Type 0
+LineHolds Delivered Took ended Open gate e Stands = IsOpen Delivered Took gate e Stands
+LineHolds Delivered Took ended Ended gate e Stands = IsServedAsNoted Delivered Took ended gate e.items e.frames Stands
+LineHolds Delivered Took ended Failed gate e Stands = Unit {0}
 
 -- how far it is behind a turn
 abbrev pub status_after : Turn → Status

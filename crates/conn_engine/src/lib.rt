@@ -15,12 +15,12 @@
 //!
 //! A turn takes the router's frames and tells the engine the moment, writes what waits, reads where the engine takes more, and ends
 //! the connection where its gate has ended or failed, or its engine is over and all is given. Whoever calls it decides when, and
-//! waits in between. Which octets the gate took, a `Script` tells together with the frames of the engine's port, so that these are
-//! not kept once more.
+//! waits in between. What it moves it notes (`Notes`): a `Script` tells which octets the gate took, together with the frames of the
+//! engine's port, so that these are not kept once more; where nobody asks, nothing is kept (`Unnoted`).
 //!
 //! - `serving`: a turn;
-//! - `noting`: the engine's calls that put octets, and what the script notes of each;
-//! - `script`: what is kept of the octets that a gate took.
+//! - `notes`: what is noted of the octets that an engine puts; `noting`: the engine's calls that put some, and what is noted of each;
+//! - `script`: notes by which the octets that a gate took can be told.
 #![tactic(auto)]
 
 mod engine;
@@ -29,6 +29,7 @@ mod fault;
 mod feeding;
 mod frame_ends;
 mod gate;
+mod notes;
 mod noting;
 mod output;
 mod port;
@@ -41,6 +42,7 @@ mod taking;
 pub use engine::{Engine, PausedEngine};
 pub use fault::EngineFault;
 pub use gate::{Delivered, Gate, Ready, Taken};
+pub use notes::{Notes, Unnoted};
 pub use output::Output;
 pub use port::{Port, PortFault};
 pub use script::Script;

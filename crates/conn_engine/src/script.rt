@@ -1,10 +1,11 @@
 //! What is kept of the octets that a gate took.
 
-ghost use Rattle.std.specs.Prelude.{◌≡◌, ◌+◌, ◌++◌, ◌<◌, ◌≤◌, ◌^◌, [], List, ℕ, length, take, drop, IsTrue, IfOk, OnOk};
+ghost use Rattle.std.specs.Prelude.{◌≡◌, ◌++◌, [], List, ℕ, take, drop, IfOk, OnOk};
 ghost use Rattle.std.specs.List.{concat};
 ghost use Rattle.conn_engine.specs.Scripts.{StandsFor, empty_frames, octets_taken, own_octets};
 ghost use Rattle.conn_engine.specs.Silence.{empty_frame};
 
+use crate::notes::Notes;
 use crate::silence::EMPTY_FRAME;
 use capture_form::Frame;
 use std::alloc::{AllocError, Global};
@@ -109,55 +110,6 @@ impl Script {
         Ok(octets)
     }
 
-    /// Whether so many octets more can be counted.
-    pub(crate) fn has_room(&self, count: usize) -> bool
-        ensures { IsTrue result → self.now.taken + count < 2 ^ 64 }
-    {
-        self.taken.checked_add(count).is_some()
-    }
-
-    /// The gate took the first `count` octets that wait.
-    pub(crate) fn gave(&mut self, count: usize)
-        requires { self.old.taken + count < 2 ^ 64 }
-        ensures { (framed taken waiting : List ℕ) → count ≤ length waiting → StandsFor self.old framed taken waiting → StandsFor self.new framed (taken ++ take count waiting) (drop count waiting) }
-    {
-        self.taken += count;
-    }
-
-    /// So many octets of frames were put behind those that wait.
-    ///
-    /// # Errors
-    ///
-    /// Where there are more than can be counted; nothing has changed then.
-    pub(crate) fn framed(&mut self, count: usize) -> Result<(), AllocError>
-        ensures { OnOk result ((framed taken waiting more : List ℕ) → length more ≡ count → StandsFor self.old framed taken waiting → StandsFor self.new (framed ++ more) taken (waiting ++ more)) }
-    {
-        match self.behind.checked_add(count) {
-            Some(behind) => {
-                self.behind = behind;
-                Ok(())
-            }
-            None => Err(AllocError),
-        }
-    }
-
-    /// The engine put these octets on its own behind those that wait.
-    ///
-    /// # Errors
-    ///
-    /// Where the memory for them is refused; nothing has changed then.
-    pub(crate) fn own(&mut self, octets: &[u8]) -> Result<(), AllocError>
-        ensures { OnOk result ((framed taken waiting : List ℕ) → StandsFor self.old framed taken waiting → StandsFor self.new framed taken (waiting ++ octets.now)) }
-    {
-        if octets.is_empty() {
-            return Ok(());
-        }
-        if octets == EMPTY_FRAME.as_slice() {
-            return self.own_empty();
-        }
-        self.begin(octets, 0)
-    }
-
     /// The engine put an empty frame behind those that wait.
     fn own_empty(&mut self) -> Result<(), AllocError>
         ensures { OnOk result ((framed taken waiting : List ℕ) → StandsFor self.old framed taken waiting → StandsFor self.new framed taken (waiting ++ empty_frame)) }
@@ -192,6 +144,43 @@ impl Script {
         })?;
         self.behind = 0;
         Ok(())
+    }
+}
+
+impl Notes for Script {
+    ghost use Rattle.std.specs.Prelude.{◌+◌, ◌<◌, ◌^◌};
+    ghost use Rattle.conn_engine.specs.Scripts.{StandsFor};
+
+    ghost stands_for = { λ script. StandsFor script };
+
+    ghost has_count = { λ script count. script.taken + count < 2 ^ 64 };
+
+    fn has_room(&self, count: usize) -> bool {
+        self.taken.checked_add(count).is_some()
+    }
+
+    fn gave(&mut self, count: usize) {
+        self.taken += count;
+    }
+
+    fn framed(&mut self, count: usize) -> Result<(), AllocError> {
+        match self.behind.checked_add(count) {
+            Some(behind) => {
+                self.behind = behind;
+                Ok(())
+            }
+            None => Err(AllocError),
+        }
+    }
+
+    fn own(&mut self, octets: &[u8]) -> Result<(), AllocError> {
+        if octets.is_empty() {
+            return Ok(());
+        }
+        if octets == EMPTY_FRAME.as_slice() {
+            return self.own_empty();
+        }
+        self.begin(octets, 0)
     }
 }
 

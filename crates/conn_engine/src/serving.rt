@@ -4,11 +4,10 @@ ghost use Rattle.std.specs.Prelude.{◌≡◌, ◌≤◌, ◌<◌, ◌++◌, ◌
 ghost use Rattle.conn_engine.specs.Closing.{is_over};
 ghost use Rattle.conn_engine.specs.declared.serving.Status.TheVariants.{Open};
 ghost use Rattle.conn_engine.specs.declared.serving.Motion.TheVariants as motions;
-ghost use Rattle.conn_engine.specs.Scripts.{octets_taken};
-ghost use Rattle.conn_engine.specs.Served.{IsOpen, IsServed, LineHolds, either_motion, status_after};
+ghost use Rattle.conn_engine.specs.Served.{IsOpen, IsServedAsNoted, LineHolds, either_motion, status_after};
 
+use crate::notes::Notes;
 use crate::noting::{feed, gave, refill, stop_of, tick};
-use crate::script::Script;
 use crate::{Delivered, Engine, Gate, Port, Taken};
 
 /// How far a connection is.
@@ -62,84 +61,84 @@ pub(crate) enum Motion {
 ///
 /// `Memory` or `Core`. Then no more can be said of the connection.
 #[tactic(auto, using(crate::proofs::ServedOn::line_open, crate::proofs::ServedOn::why_ended))]
-pub fn serve<G: Gate, P: Port>(
+pub fn serve<G: Gate, P: Port, S: Notes>(
     gate: &mut G,
     engine: &mut Engine<P>,
-    script: &mut Script,
+    notes: &mut S,
     buffer: &mut [u8],
 ) -> Result<Turn, Stop>
     requires { 0 < length buffer.old }
-    ensures holds { IfOk result (λ turn. IsOpen G.delivered G.took gate.old engine.old script.old → LineHolds G.delivered G.took G.has_ended (status_after turn) gate.new engine.new script.new) }
+    ensures holds { IfOk result (λ turn. IsOpen G.delivered G.took gate.old engine.old (S.stands_for notes.old) → LineHolds G.delivered G.took G.has_ended (status_after turn) gate.new engine.new (S.stands_for notes.new)) }
     ensures follows { G.follows gate.old gate.new }
     ensures number { engine.new.number ≡ engine.old.number }
 {
-    let motion = match advance(gate, engine, script, buffer) {
+    let motion = match advance(gate, engine, notes, buffer) {
         Ok(motion) => motion,
         Err(stop) => return Err(stop),
     };
     if let Some(turn) = going_on(motion, engine) {
         return Ok(turn);
     }
-    match end(gate, engine, script) {
+    match end(gate, engine, notes) {
         Ok(()) => Ok(Turn::Ended),
         Err(stop) => Err(stop),
     }
 }
 
 /// Takes frames for the gate, and moves what octets can be moved now.
-fn advance<G: Gate, P: Port>(
+fn advance<G: Gate, P: Port, S: Notes>(
     gate: &mut G,
     engine: &mut Engine<P>,
-    script: &mut Script,
+    notes: &mut S,
     buffer: &mut [u8],
 ) -> Result<Motion, Stop>
     requires { 0 < length buffer.old }
-    ensures holds { OnOk result (IsOpen G.delivered G.took gate.old engine.old script.old → IsOpen G.delivered G.took gate.new engine.new script.new) }
+    ensures holds { OnOk result (IsOpen G.delivered G.took gate.old engine.old (S.stands_for notes.old) → IsOpen G.delivered G.took gate.new engine.new (S.stands_for notes.new)) }
     ensures ended { result ≡ Ok motions.Gone → G.has_ended gate.new ≡ true }
     ensures follows { G.follows gate.old gate.new }
     ensures number { engine.new.number ≡ engine.old.number }
 {
-    match take_frames(gate, engine, script) {
-        Ok(()) => move_octets(gate, engine, script, buffer),
+    match take_frames(gate, engine, notes) {
+        Ok(()) => move_octets(gate, engine, notes, buffer),
         Err(stop) => Err(stop),
     }
 }
 
 /// Takes frames for the gate, and tells the engine the moment, which may place an empty one where there are none.
-fn take_frames<G: Gate, P: Port>(
+fn take_frames<G: Gate, P: Port, S: Notes>(
     gate: &G,
     engine: &mut Engine<P>,
-    script: &mut Script,
+    notes: &mut S,
 ) -> Result<(), Stop>
-    ensures holds { OnOk result (IsOpen G.delivered G.took gate.now engine.old script.old → IsOpen G.delivered G.took gate.now engine.new script.new) }
+    ensures holds { OnOk result (IsOpen G.delivered G.took gate.now engine.old (S.stands_for notes.old) → IsOpen G.delivered G.took gate.now engine.new (S.stands_for notes.new)) }
     ensures number { engine.new.number ≡ engine.old.number }
 {
-    match refill(engine, script) {
-        Ok(()) => tick(engine, gate.now(), script),
+    match refill(engine, notes) {
+        Ok(()) => tick(engine, gate.now(), notes),
         Err(stop) => Err(stop),
     }
 }
 
 /// Writes what waits, and reads where the engine takes more.
-fn move_octets<G: Gate, P: Port>(
+fn move_octets<G: Gate, P: Port, S: Notes>(
     gate: &mut G,
     engine: &mut Engine<P>,
-    script: &mut Script,
+    notes: &mut S,
     buffer: &mut [u8],
 ) -> Result<Motion, Stop>
     requires { 0 < length buffer.old }
-    ensures holds { OnOk result (IsOpen G.delivered G.took gate.old engine.old script.old → IsOpen G.delivered G.took gate.new engine.new script.new) }
+    ensures holds { OnOk result (IsOpen G.delivered G.took gate.old engine.old (S.stands_for notes.old) → IsOpen G.delivered G.took gate.new engine.new (S.stands_for notes.new)) }
     ensures ended { result ≡ Ok motions.Gone → G.has_ended gate.new ≡ true }
     ensures follows { G.follows gate.old gate.new }
     ensures number { engine.new.number ≡ engine.old.number }
 {
-    match write_out(gate, engine, script) {
+    match write_out(gate, engine, notes) {
         Ok(Motion::Gone) => Ok(Motion::Gone),
         Ok(wrote) => {
             if engine.is_over() {
                 return Ok(wrote);
             }
-            match read_in(gate, engine, script, buffer) {
+            match read_in(gate, engine, notes, buffer) {
                 Ok(read) => Ok(either_motion(wrote, read)),
                 Err(stop) => Err(stop),
             }
@@ -150,22 +149,22 @@ fn move_octets<G: Gate, P: Port>(
 
 /// Shows the gate what waits. It is gone where the gate failed.
 #[tactic(auto, using(crate::proofs::ServedOn::open_kept))]
-fn write_out<G: Gate, P: Port>(
+fn write_out<G: Gate, P: Port, S: Notes>(
     gate: &mut G,
     engine: &mut Engine<P>,
-    script: &mut Script,
+    notes: &mut S,
 ) -> Result<Motion, Stop>
-    ensures holds { OnOk result (IsOpen G.delivered G.took gate.old engine.old script.old → IsOpen G.delivered G.took gate.new engine.new script.new) }
+    ensures holds { OnOk result (IsOpen G.delivered G.took gate.old engine.old (S.stands_for notes.old) → IsOpen G.delivered G.took gate.new engine.new (S.stands_for notes.new)) }
     ensures ended { result ≡ Ok motions.Gone → G.has_ended gate.new ≡ true }
     ensures follows { G.follows gate.old gate.new }
     ensures number { engine.new.number ≡ engine.old.number }
 {
-    if !script.has_room(engine.give().len()) {
+    if !notes.has_room(engine.give().len()) {
         return Err(Stop::Memory);
     }
     match gate.write(engine.give()) {
         Taken::Took(n) => {
-            gave(engine, n, script);
+            gave(engine, n, notes);
             Ok(motion_of(n))
         }
         Taken::Nothing => Ok(Motion::Still),
@@ -175,21 +174,21 @@ fn write_out<G: Gate, P: Port>(
 
 /// Feeds the engine what the gate delivers. It is gone where the gate ended or failed.
 #[tactic(auto, using(crate::proofs::ServedOn::open_kept))]
-fn read_in<G: Gate, P: Port>(
+fn read_in<G: Gate, P: Port, S: Notes>(
     gate: &mut G,
     engine: &mut Engine<P>,
-    script: &mut Script,
+    notes: &mut S,
     buffer: &mut [u8],
 ) -> Result<Motion, Stop>
     requires going { is_over engine.old.place ≡ false }
     requires room { 0 < length buffer.old }
-    ensures holds { OnOk result (IsOpen G.delivered G.took gate.old engine.old script.old → IsOpen G.delivered G.took gate.new engine.new script.new) }
+    ensures holds { OnOk result (IsOpen G.delivered G.took gate.old engine.old (S.stands_for notes.old) → IsOpen G.delivered G.took gate.new engine.new (S.stands_for notes.new)) }
     ensures ended { result ≡ Ok motions.Gone → G.has_ended gate.new ≡ true }
     ensures follows { G.follows gate.old gate.new }
     ensures number { engine.new.number ≡ engine.old.number }
 {
     match gate.read(buffer) {
-        Delivered::Octets(n) => match feed(engine, &buffer[..n], script) {
+        Delivered::Octets(n) => match feed(engine, &buffer[..n], notes) {
             Ok(()) => Ok(motion_of(n)),
             Err(stop) => Err(stop),
         },
@@ -203,9 +202,13 @@ fn read_in<G: Gate, P: Port>(
 /// # Errors
 ///
 /// `Memory` or `Core`, where the router did not take it.
-fn end<G: Gate, P: Port>(gate: &mut G, engine: &mut Engine<P>, script: &Script) -> Result<(), Stop>
+fn end<G: Gate, P: Port, S: Notes>(
+    gate: &mut G,
+    engine: &mut Engine<P>,
+    notes: &S,
+) -> Result<(), Stop>
     requires { (G.has_ended gate.old ≡ true) ⊎ ((is_over engine.old.place ≡ true) × (engine.old.waiting ≡ [])) }
-    ensures holds { OnOk result (IsOpen G.delivered G.took gate.old engine.old script.now → IsServed G.delivered G.took G.has_ended gate.new engine.new.items engine.new.frames (octets_taken script.now engine.new.frames)) }
+    ensures holds { OnOk result (IsOpen G.delivered G.took gate.old engine.old (S.stands_for notes.now) → IsServedAsNoted G.delivered G.took G.has_ended gate.new engine.new.items engine.new.frames (S.stands_for notes.now)) }
     ensures follows { G.follows gate.old gate.new }
     ensures number { engine.new.number ≡ engine.old.number }
 {

@@ -49,14 +49,13 @@ pub(crate) struct Line<G: Gate, P: Port, J: Origin<G>> {
 impl<G: Gate, P: Port, J: Origin<G>> Model for Line<G, P, J> {
     ghost use Rattle.std.specs.Prelude.{◌≡◌};
     ghost use Rattle.conn_engine.specs.declared.serving.Status.{Status};
-    ghost use Rattle.conn_engine.specs.Served.{LineHolds};
-    ghost use Rattle.conn_workers.specs.Lines.{IsFrom};
+    ghost use Rattle.conn_workers.specs.Lines.{IsFrom, ScriptHolds};
 
     ghost Value = { Status };
 
     ghost view = { λ l. l.status };
 
-    ghost invariant = { λ l. IsFrom J.gates G.follows l.conn l.gate × (l.engine.number ≡ l.conn) × LineHolds G.delivered G.took G.has_ended l.status l.gate l.engine l.script };
+    ghost invariant = { λ l. IsFrom J.gates G.follows l.conn l.gate × (l.engine.number ≡ l.conn) × ScriptHolds G.delivered G.took G.has_ended l.status l.gate l.engine l.script };
 }
 
 impl<G: Gate, J: Origin<G>> Start<G, J> {
@@ -109,6 +108,7 @@ impl<G: Gate, P: Port, J: Origin<G>> Line<G, P, J> {
     /// # Errors
     ///
     /// As `Stop` says.
+    #[tactic(auto, using(conn_engine::proofs::ServedOn::served_by_script))]
     pub(crate) fn turn(&mut self, buffer: &mut [u8]) -> Result<Turn, Stop>
         requires open { self.old ≡ Open }
         requires room { 0 < length buffer.old }

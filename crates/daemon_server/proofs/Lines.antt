@@ -5,10 +5,9 @@ use Rattle.std.proofs.lemmas.List.Elements.{All-nil}
 use Rattle.capture_form.specs.declared.records.Record.{Record}
 use Rattle.capture_form.specs.declared.records.What.{What}
 use Rattle.conn_engine.specs.Pausing.{Paused, resumed}
-use Rattle.conn_engine.specs.declared.script.Script.{Script}
 use Rattle.conn_engine.specs.declared.serving.Status.{Status}
 use Rattle.conn_engine.specs.declared.serving.Status.TheVariants.{Open}
-use Rattle.conn_engine.specs.Served.{IsOpen, LineHolds}
+use Rattle.conn_engine.specs.Served.{IsOpen, LineHolds, NothingNoted}
 use Rattle.daemon_server.specs.Desks.{IsEntry, is_empty, told_by}
 use Rattle.daemon_server.specs.Turns.{HasServed}
 use Rattle.daemon_server.specs.declared.line.Line.{Line}
@@ -29,9 +28,9 @@ front-is front last all is =
 
 module _ {G : Type 0} (Delivered Took : G → List ℕ → Type 0) (ended : G → Bool) where
   -- nothing of an open one depends on whether its port is idle
-  open-idle : (gate : G) (engine : Paused) (items : List What) (given : List (List ℕ)) (was is : Bool) (script : Script)
-      → IsOpen Delivered Took gate (resumed engine items given was) script → IsOpen Delivered Took gate (resumed engine items given is) script
-  open-idle gate engine items given was is script h = record {
+  open-idle : (gate : G) (engine : Paused) (items : List What) (given : List (List ℕ)) (was is : Bool)
+      → IsOpen Delivered Took gate (resumed engine items given was) NothingNoted → IsOpen Delivered Took gate (resumed engine items given is) NothingNoted
+  open-idle gate engine items given was is h = record {
     octets = h.octets;
     taken = h.taken;
     delivered = h.delivered;
@@ -56,37 +55,36 @@ module _ {G : Type 0} (Delivered Took : G → List ℕ → Type 0) (ended : G �
 
   -- the engine of a line goes on, where its inbox is empty
   pub open-beside : (taken : List What) (written : List (List ℕ)) (line : Line G) (engine : Paused) → IsLine Delivered Took ended taken written line → line.status ≡ Open → line.inbox.items ≡ []
-      → line.engine ≡ Some engine → IsOpen Delivered Took line.gate (resumed engine taken (front_of written line.outbox.items) (is_empty line.outbox.items)) line.script
+      → line.engine ≡ Some engine → IsOpen Delivered Took line.gate (resumed engine taken (front_of written line.outbox.items) (is_empty line.outbox.items)) NothingNoted
   open-beside taken written line engine holds is_open empty there =
       let same : holds.engine ≡ engine = some (sym holds.is_there ∙ there) in
       let items : taken ++ told_by line.inbox.items ≡ taken = ap (λ (xs : List Record). taken ++ told_by xs) empty ∙ append-nil taken in
       let front : front_of written line.outbox.items ≡ holds.given = front-is holds.given line.outbox.items written holds.due in
-      let first : IsOpen Delivered Took line.gate (resumed holds.engine (taken ++ told_by line.inbox.items) holds.given holds.is_idle) line.script =
-      subst (λ (s : Status). LineHolds Delivered Took ended s line.gate (resumed holds.engine (taken ++ told_by line.inbox.items) holds.given holds.is_idle) line.script) is_open holds.holds in
-      let second = subst (λ (xs : List What). IsOpen Delivered Took line.gate (resumed holds.engine xs holds.given holds.is_idle) line.script) items first in
-      let third = subst (λ (p : Paused). IsOpen Delivered Took line.gate (resumed p taken holds.given holds.is_idle) line.script) same second in
-      let fourth = subst (λ (xs : List (List ℕ)). IsOpen Delivered Took line.gate (resumed engine taken xs holds.is_idle) line.script) (sym front) third in
-      open-idle line.gate engine taken (front_of written line.outbox.items) holds.is_idle (is_empty line.outbox.items) line.script fourth
+      let first : IsOpen Delivered Took line.gate (resumed holds.engine (taken ++ told_by line.inbox.items) holds.given holds.is_idle) NothingNoted =
+      subst (λ (s : Status). LineHolds Delivered Took ended s line.gate (resumed holds.engine (taken ++ told_by line.inbox.items) holds.given holds.is_idle) NothingNoted) is_open holds.holds in
+      let second = subst (λ (xs : List What). IsOpen Delivered Took line.gate (resumed holds.engine xs holds.given holds.is_idle) NothingNoted) items first in
+      let third = subst (λ (p : Paused). IsOpen Delivered Took line.gate (resumed p taken holds.given holds.is_idle) NothingNoted) same second in
+      let fourth = subst (λ (xs : List (List ℕ)). IsOpen Delivered Took line.gate (resumed engine taken xs holds.is_idle) NothingNoted) (sym front) third in
+      open-idle line.gate engine taken (front_of written line.outbox.items) holds.is_idle (is_empty line.outbox.items) fourth
     where
       some : {a b : Paused} → Some a ≡ Some b → a ≡ b
       some is = cc
 
   -- what a turn leaves is a line
-  pub line-turned : (taken : List What) (written due : List (List ℕ)) (line later : Line G) (gate : G) (script : Script) (status : Status) (engine : Paused) (inbox : List Record) (outbox : List (List ℕ))
-      → HasServed Delivered Took ended taken (front_of written due) due line.number status gate script engine inbox outbox → front_of written due ++ due ≡ written → later.gate ≡ gate → later.script ≡ script
+  pub line-turned : (taken : List What) (written due : List (List ℕ)) (line later : Line G) (gate : G) (status : Status) (engine : Paused) (inbox : List Record) (outbox : List (List ℕ))
+      → HasServed Delivered Took ended taken (front_of written due) due line.number status gate engine inbox outbox → front_of written due ++ due ≡ written → later.gate ≡ gate
       → later.engine ≡ Some engine → later.inbox.items ≡ inbox → later.outbox.items ≡ outbox → later.status ≡ status → later.number ≡ line.number → IsLine Delivered Took ended taken written later
-  line-turned taken written due line later gate script status engine inbox outbox served whole gate_is script_is there in_is out_is status_is number = record {
+  line-turned taken written due line later gate status engine inbox outbox served whole gate_is there in_is out_is status_is number = record {
     engine = engine;
     is_there = there;
     own = served.number ∙ sym number;
     given = served.frames_now;
     is_idle = served.is_idle;
     holds =
-        subst (λ (x : G). LineHolds Delivered Took ended later.status x (resumed engine (taken ++ told_by later.inbox.items) served.frames_now served.is_idle) later.script) (sym gate_is)
-        (subst (λ (x : Script). LineHolds Delivered Took ended later.status gate (resumed engine (taken ++ told_by later.inbox.items) served.frames_now served.is_idle) x) (sym script_is)
-        (subst (λ (s : Status). LineHolds Delivered Took ended s gate (resumed engine (taken ++ told_by later.inbox.items) served.frames_now served.is_idle) script) (sym status_is)
-        (subst (λ (xs : List What). LineHolds Delivered Took ended status gate (resumed engine xs served.frames_now served.is_idle) script)
-        (served.taken ∙ ap (λ (xs : List Record). taken ++ told_by xs) (sym in_is)) served.holds)));
+        subst (λ (x : G). LineHolds Delivered Took ended later.status x (resumed engine (taken ++ told_by later.inbox.items) served.frames_now served.is_idle) NothingNoted) (sym gate_is)
+        (subst (λ (s : Status). LineHolds Delivered Took ended s gate (resumed engine (taken ++ told_by later.inbox.items) served.frames_now served.is_idle) NothingNoted) (sym status_is)
+        (subst (λ (xs : List What). LineHolds Delivered Took ended status gate (resumed engine xs served.frames_now served.is_idle) NothingNoted)
+        (served.taken ∙ ap (λ (xs : List Record). taken ++ told_by xs) (sym in_is)) served.holds));
     due = ap (λ (xs : List (List ℕ)). served.frames_now ++ xs) out_is ∙ (served.given ∙ whole);
     entries = subst (λ n. All (IsEntry n) later.inbox.items) (sym number) (subst (All (IsEntry line.number)) (sym in_is) served.entries);
   }
@@ -97,16 +95,16 @@ module _ {G : Type 0} (Delivered Took : G → List ℕ → Type 0) (ended : G �
 
   -- the core took what came
   pub line-stepped : (taken : List What) (written : List (List ℕ)) (line : Line G) (inbox : List Record) (later : Line G) → IsLine Delivered Took ended taken written line → inbox ≡ []
-      → later.engine ≡ line.engine → later.gate ≡ line.gate → later.script ≡ line.script → later.status ≡ line.status → later.number ≡ line.number → later.outbox.items ≡ line.outbox.items → later.inbox.items ≡ inbox
+      → later.engine ≡ line.engine → later.gate ≡ line.gate → later.status ≡ line.status → later.number ≡ line.number → later.outbox.items ≡ line.outbox.items → later.inbox.items ≡ inbox
       → IsLine Delivered Took ended (taken ++ told_by line.inbox.items) written later
-  line-stepped taken written line inbox later holds none engine gate script status number outbox in_is = record {
+  line-stepped taken written line inbox later holds none engine gate status number outbox in_is = record {
     engine = holds.engine;
     is_there = engine ∙ holds.is_there;
     own = holds.own ∙ sym number;
     given = holds.given;
     is_idle = holds.is_idle;
     holds =
-        rw (gate, script, status, in_is, none, append-nil (taken ++ told_by line.inbox.items)) holds.holds;
+        rw (gate, status, in_is, none, append-nil (taken ++ told_by line.inbox.items)) holds.holds;
     due = ap (λ (xs : List (List ℕ)). holds.given ++ xs) outbox ∙ holds.due;
     entries = subst (All (IsEntry later.number)) (sym (in_is ∙ none)) (All-nil (IsEntry later.number));
   }
@@ -127,7 +125,7 @@ module _ {G : Type 0} (Delivered Took : G → List ℕ → Type 0) (ended : G �
 
   -- a connection that came
   pub line-new : (line : Line G) (engine : Paused) → line.engine ≡ Some engine → engine.number ≡ line.number → line.status ≡ Open → line.inbox.items ≡ [] → line.outbox.items ≡ []
-      → IsOpen Delivered Took line.gate (resumed engine [] [] true) line.script → IsLine Delivered Took ended [] [] line
+      → IsOpen Delivered Took line.gate (resumed engine [] [] true) NothingNoted → IsLine Delivered Took ended [] [] line
   line-new line engine there own status inbox outbox fresh = record {
     engine = engine;
     is_there = there;
@@ -135,8 +133,8 @@ module _ {G : Type 0} (Delivered Took : G → List ℕ → Type 0) (ended : G �
     given = [];
     is_idle = true;
     holds =
-        subst (λ (s : Status). LineHolds Delivered Took ended s line.gate (resumed engine ([] ++ told_by line.inbox.items) [] true) line.script) (sym status)
-        (subst (λ (xs : List Record). IsOpen Delivered Took line.gate (resumed engine ([] ++ told_by xs) [] true) line.script) (sym inbox) fresh);
+        subst (λ (s : Status). LineHolds Delivered Took ended s line.gate (resumed engine ([] ++ told_by line.inbox.items) [] true) NothingNoted) (sym status)
+        (subst (λ (xs : List Record). IsOpen Delivered Took line.gate (resumed engine ([] ++ told_by xs) [] true) NothingNoted) (sym inbox) fresh);
     due = outbox;
     entries = subst (All (IsEntry line.number)) (sym inbox) (All-nil (IsEntry line.number));
   }

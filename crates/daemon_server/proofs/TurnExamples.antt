@@ -4,17 +4,16 @@ use Rattle.std.proofs.lemmas.List.Elements.{All-cons}
 use Rattle.capture_form.specs.declared.records.Record.{Record}
 use Rattle.capture_form.specs.declared.records.What.TheVariants as happened
 use Rattle.conn_engine.specs.Pausing.{Paused}
-use Rattle.conn_engine.specs.declared.script.Script.{Script}
 use Rattle.conn_engine.specs.declared.serving.Status.TheVariants.{Failed}
 use Rattle.daemon_server.specs.Desks.{IsEntry}
 use Rattle.daemon_server.specs.Turns.{HasServed}
 
 -- of a connection of which one item was taken, which was given one frame, and to which two are due; of one that stopped nothing is
 -- known of its octets
-module _ {G : Type 0} (Delivered Took : G → List ℕ → Type 0) (ended : G → Bool) (gate : G) (script : Script) (engine : Paused) (number : engine.number ≡ 3) (lost : Record)
+module _ {G : Type 0} (Delivered Took : G → List ℕ → Type 0) (ended : G → Bool) (gate : G) (engine : Paused) (number : engine.number ≡ 3) (lost : Record)
     (entry : IsEntry 3 lost) (is : lost.what ≡ happened.Lost) where
   abbrev Served : List Record → List (List ℕ) → Type 0
-  Served inbox outbox = HasServed Delivered Took ended (happened.Opened ∷ []) ((7 ∷ []) ∷ []) ((8 ∷ []) ∷ (9 ∷ []) ∷ []) 3 Failed gate script engine inbox outbox
+  Served inbox outbox = HasServed Delivered Took ended (happened.Opened ∷ []) ((7 ∷ []) ∷ []) ((8 ∷ []) ∷ (9 ∷ []) ∷ []) 3 Failed gate engine inbox outbox
 
   nothing : All (IsEntry 3) []
   nothing = λ k d lt. absurd (omega (arith, lt))

@@ -8,7 +8,7 @@ use Rattle.route_items.specs.Inputs.{inputs}
 use Rattle.route_items.specs.WrittenFrames.{writes_on}
 use Rattle.conn_engine.specs.Pausing.{Paused, resumed}
 use Rattle.conn_engine.specs.declared.serving.Status.TheVariants.{Ended}
-use Rattle.conn_engine.specs.Served.{LineHolds}
+use Rattle.conn_engine.specs.Served.{LineHolds, NothingNoted}
 use Rattle.daemon_server.specs.Desks.{IsEntry, told_by}
 use Rattle.daemon_server.specs.declared.line.Line.{Line}
 use Rattle.daemon_server.specs.declared.table.Table.{Table}
@@ -91,7 +91,7 @@ module _ {G : Type 0} (Delivered Took : G → List ℕ → Type 0) (ended : G �
     pub own : engine.number ≡ line.number
     pub given : List (List ℕ)
     pub is_idle : Bool
-    pub holds : LineHolds Delivered Took ended line.status line.gate (resumed engine (taken ++ told_by line.inbox.items) given is_idle) line.script
+    pub holds : LineHolds Delivered Took ended line.status line.gate (resumed engine (taken ++ told_by line.inbox.items) given is_idle) NothingNoted
     pub due : given ++ line.outbox.items ≡ written
     pub entries : All (IsEntry line.number) line.inbox.items
 

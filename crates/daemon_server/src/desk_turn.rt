@@ -2,14 +2,14 @@
 
 ghost use Rattle.std.specs.Prelude.{◌≡◌, ◌<◌, [], length, IfOk};
 ghost use Rattle.conn_engine.specs.Pausing.{resumed};
-ghost use Rattle.conn_engine.specs.Served.{IsOpen, status_after};
+ghost use Rattle.conn_engine.specs.Served.{IsOpen, NothingNoted, status_after};
 ghost use Rattle.daemon_server.specs.Desks.{is_empty};
 ghost use Rattle.daemon_server.specs.Turns.{HasServed};
 
 use crate::before::Before;
 use crate::desk::Desk;
 use capture_form::{Frame, Record};
-use conn_engine::{Gate, PausedEngine, Script, Stop, Turn, serve};
+use conn_engine::{Gate, PausedEngine, Stop, Turn, Unnoted, serve};
 use std::alloc::Global;
 use std::collections::VecDeque;
 
@@ -35,7 +35,6 @@ pub fn serve_at_desk<G: Gate, J: Before>(
     connection: u32,
     gate: &mut G,
     engine: PausedEngine,
-    script: &mut Script,
     inbox: Vec<Record>,
     outbox: VecDeque<Frame>,
     buffer: &mut [u8],
@@ -43,16 +42,16 @@ pub fn serve_at_desk<G: Gate, J: Before>(
     requires number { engine.number ≡ connection }
     requires empty { inbox.items ≡ [] }
     requires due { outbox.items ≡ J.due }
-    requires open { IsOpen G.delivered G.took gate.old (resumed engine J.items J.frames (is_empty J.due)) script.old }
+    requires open { IsOpen G.delivered G.took gate.old (resumed engine J.items J.frames (is_empty J.due)) NothingNoted }
     requires room { 0 < length buffer.old }
     // What holds of a line behind its turn holds; its items are those before and then those of the inbox, and what it was given and
     // what is still due is what was given and due before.
-    ensures served { IfOk result (λ served. HasServed G.delivered G.took G.has_ended J.items J.frames J.due connection (status_after served.turn) gate.new script.new served.engine served.inbox.items served.outbox.items) }
+    ensures served { IfOk result (λ served. HasServed G.delivered G.took G.has_ended J.items J.frames J.due connection (status_after served.turn) gate.new served.engine served.inbox.items served.outbox.items) }
     ensures follows { G.follows gate.old gate.new }
 {
     let desk: Desk<J> = Desk::new(alloc, connection, inbox, outbox);
     let mut engine = engine.resume(desk);
-    match serve(gate, &mut engine, script, buffer) {
+    match serve(gate, &mut engine, &mut Unnoted, buffer) {
         Ok(turn) => {
             let (engine, desk) = engine.pause();
             let freed = desk.freed();

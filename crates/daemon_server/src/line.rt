@@ -4,7 +4,7 @@ ghost use Rattle.std.specs.Prelude.{◌≡◌, ◌<◌, ◌++◌, ◌∷◌, ◌
 ghost use Rattle.capture_form.specs.declared.records.What.{What};
 ghost use Rattle.conn_engine.specs.Pausing.{resumed};
 ghost use Rattle.conn_engine.specs.declared.serving.Status.TheVariants.{Open, Ended};
-ghost use Rattle.conn_engine.specs.Served.{IsOpen, status_after};
+ghost use Rattle.conn_engine.specs.Served.{IsOpen, NothingNoted, status_after};
 ghost use Rattle.daemon_server.specs.Desks.{IsEntry, is_empty, told_by};
 ghost use Rattle.daemon_server.specs.Turns.{HasServed};
 ghost use Rattle.daemon_server.specs.Stepping.{HasStepped};
@@ -15,7 +15,7 @@ use crate::desk_turn::{Served, serve_at_desk};
 use crate::recording::RecordingCore;
 use crate::stepping::step_inbox;
 use capture_form::{Frame, Record};
-use conn_engine::{Gate, PausedEngine, Script, Status, Stop, Turn};
+use conn_engine::{Gate, PausedEngine, Status, Stop, Turn};
 use route_core::Dues;
 use route_items::StepFault;
 use std::alloc::{AllocError, Global};
@@ -24,14 +24,13 @@ use std::io::Write;
 use std::marker::Brand;
 use std::mem;
 
-/// A connection between two turns: its gate, its engine, the script of the octets that the gate took, how far it is, the records of
-/// the items that its core has not taken yet, and the frames of the core that its engine was not given yet.
+/// A connection between two turns: its gate, its engine, how far it is, the records of the items that its core has not taken
+/// yet, and the frames of the core that its engine was not given yet.
 #[derive(Drop)]
 pub struct Line<G> {
     gate: G,
     /// None behind a turn that failed; then nothing more is known of the connection.
     engine: Option<PausedEngine>,
-    script: Script,
     inbox: Vec<Record>,
     outbox: VecDeque<Frame>,
     /// How many octets the frames of the outbox have, of which no clause speaks.
@@ -55,7 +54,6 @@ impl<G: Gate> Line<G> {
         Line {
             gate,
             engine: Some(PausedEngine::new(alloc, number)),
-            script: Script::new(alloc),
             inbox: Vec::new(alloc),
             outbox: VecDeque::new(alloc),
             waiting: 0,
@@ -192,7 +190,6 @@ impl<G: Gate> Line<G> {
             self.number,
             &mut self.gate,
             engine,
-            &mut self.script,
             inbox,
             outbox,
             buffer,
@@ -208,7 +205,6 @@ impl<G: Gate> Line<G> {
         ensures outbox { self.new.outbox.items ≡ served.outbox.items }
         ensures status { self.old.status ≡ Open → self.new.status ≡ status_after served.turn }
         ensures gate { self.new.gate ≡ self.old.gate }
-        ensures script { self.new.script ≡ self.old.script }
         ensures number { self.new.number ≡ self.old.number }
     {
         let Served {
@@ -236,7 +232,6 @@ fn serve_beside<G: Gate, D: Dues, W: Write, J: Before>(
     connection: u32,
     gate: &mut G,
     engine: PausedEngine,
-    script: &mut Script,
     inbox: Vec<Record>,
     outbox: VecDeque<Frame>,
     buffer: &mut [u8],
@@ -246,12 +241,10 @@ fn serve_beside<G: Gate, D: Dues, W: Write, J: Before>(
     requires number { engine.number ≡ connection }
     requires empty { inbox.items ≡ [] }
     requires due { outbox.items ≡ J.due }
-    requires open { IsOpen G.delivered G.took gate.old (resumed engine J.items J.frames (is_empty J.due)) script.old }
+    requires open { IsOpen G.delivered G.took gate.old (resumed engine J.items J.frames (is_empty J.due)) NothingNoted }
     requires room { 0 < length buffer.old }
-    ensures served { IfOk result (λ served. HasServed G.delivered G.took G.has_ended J.items J.frames J.due connection (status_after served.turn) gate.new script.new served.engine served.inbox.items served.outbox.items) }
+    ensures served { IfOk result (λ served. HasServed G.delivered G.took G.has_ended J.items J.frames J.due connection (status_after served.turn) gate.new served.engine served.inbox.items served.outbox.items) }
     ensures follows { G.follows gate.old gate.new }
 {
-    serve_at_desk::<G, J>(
-        alloc, connection, gate, engine, script, inbox, outbox, buffer,
-    )
+    serve_at_desk::<G, J>(alloc, connection, gate, engine, inbox, outbox, buffer)
 }

@@ -6,6 +6,6 @@ pub returns-in-Ok-clause-holds : goal.returns-in-Ok-clause-holds
 returns-in-Ok-clause-holds g c =
     on_ok_weaker c.tick.result
     (λ noted h.
-    open_noted g.G.Gate.delivered g.G.Gate.took c.args.gate.now c.refill.new.engine c.tick.new.engine c.refill.new.script c.tick.new.script noted
-    (open_noted g.G.Gate.delivered g.G.Gate.took c.args.gate.now c.args.engine.now c.refill.new.engine c.args.script.now c.refill.new.script c.in-Ok.ensures.noted h))
+    open_noted g.G.Gate.delivered g.G.Gate.took c.args.gate.now c.refill.new.engine c.tick.new.engine (g.S.Notes.stands_for c.refill.new.notes) (g.S.Notes.stands_for c.tick.new.notes) noted
+    (open_noted g.G.Gate.delivered g.G.Gate.took c.args.gate.now c.args.engine.now c.refill.new.engine (g.S.Notes.stands_for c.args.notes.now) (g.S.Notes.stands_for c.refill.new.notes) c.in-Ok.ensures.noted h))
     c.tick.ensures.noted

@@ -3,7 +3,7 @@ use lib.Pointwise.{bytes_decides}
 use Rattle.conn_engine.specs.Scripts.{StandsFor}
 use Rattle.conn_engine.specs.Silence.{empty_frame}
 use Rattle.conn_engine.proofs.Laced.{octets_alone, of_ok, where_ok}
-use Rattle.conn_engine.proofs.script.Script.own.Goals as goal
+use Rattle.conn_engine.proofs.script.ScriptNotes.own.Goals as goal
 
 pub returns-then-eq : goal.returns-then-eq
 returns-then-eq c =
