@@ -6,8 +6,8 @@ use Rattle.pairing_cert.specs.declared.note.Note.{Note}
 use Rattle.pairing_cert.specs.declared.note.Note.TheVariants as notes
 use Rattle.capture_form.specs.declared.records.Record.{Record}
 use Rattle.capture_form.specs.Rules.{RuleSet}
-use Rattle.trace_clauses.specs.declared.clause.Clause.{Clause}
-use Rattle.trace_clauses.specs.declared.clause.Clause.TheVariants.{L1, L2, L3, L4, L5, L6, L7, L8, L9, L10, L11, L12, L13, L14}
+use Rattle.trace_events.specs.declared.clause.Clause.{Clause}
+use Rattle.trace_events.specs.declared.clause.Clause.TheVariants.{L1, L2, L3, L4, L5, L6, L7, L8, L9, L10, L11, L12, L13, L14}
 use Rattle.trace_events.specs.Words.{is_some_and, is_none_or, or_else}
 use Rattle.trace_events.specs.Frame.{Frame, Spoken, spoken_in}
 use Rattle.trace_events.specs.Event.{Event, Moment, Out}
@@ -15,12 +15,12 @@ use Rattle.trace_events.specs.Said.{as_begin, as_attach, as_flow, as_detach, is_
 use Rattle.trace_events.specs.Link.{is_sender, is_receiver}
 use Rattle.trace_events.specs.Credit.{begins_outgoing}
 use Rattle.trace_events.specs.History.{history}
-use Rattle.trace_clauses.specs.ConnectionClause.{may_be_written, fits_limit}
-use Rattle.trace_clauses.specs.SessionClause.{answers_begin, may_end}
-use Rattle.trace_clauses.specs.LinkClause.{answers_attach, may_detach}
-use Rattle.trace_clauses.specs.TransferClause.{has_link_and_window, has_credit_and_next_id, goes_on_with, names_what_may_go, carries_its_octets, goes_once_and_in_order}
-use Rattle.trace_clauses.specs.FlowClause.{tells_counts}
-use Rattle.trace_clauses.specs.DispositionClause.{is_outcome, is_settling}
+use Rattle.trace_events.specs.ConnectionClause.{may_be_written, fits_limit}
+use Rattle.trace_events.specs.SessionClause.{answers_begin, may_end}
+use Rattle.trace_events.specs.LinkClause.{answers_attach, may_detach}
+use Rattle.trace_events.specs.TransferClause.{has_link_and_window, has_credit_and_next_id, goes_on_with, names_what_may_go, carries_its_octets, goes_once_and_in_order}
+use Rattle.trace_events.specs.FlowClause.{tells_counts}
+use Rattle.trace_events.specs.DispositionClause.{is_outcome, is_settling}
 
 -- ---- which clause speaks of which records: each table has a row for each clause, and what a clause doesn't speak of meets it
 

@@ -1,7 +1,7 @@
 -- The names of the clauses.
 use Rattle.std.specs.Prelude.{ℕ, List, codes}
-use Rattle.trace_clauses.specs.declared.clause.Clause.{Clause}
-use Rattle.trace_clauses.specs.declared.clause.Clause.TheVariants.{L1, L2, L3, L4, L5, L6, L7, L8, L9, L10, L11, L12, L13, L14}
+use Rattle.trace_events.specs.declared.clause.Clause.{Clause}
+use Rattle.trace_events.specs.declared.clause.Clause.TheVariants.{L1, L2, L3, L4, L5, L6, L7, L8, L9, L10, L11, L12, L13, L14}
 
 -- the name of a clause (own format)
 abbrev pub clause_name : Clause → List ℕ

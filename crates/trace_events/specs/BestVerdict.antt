@@ -11,7 +11,7 @@ use Rattle.trace_events.specs.Event.{Event, Link, Incoming}
 use Rattle.trace_events.specs.Link.{links}
 use Rattle.trace_events.specs.Due.{is_due}
 use Rattle.trace_events.specs.Waiting.{is_of_multicast}
-use Rattle.trace_clauses.specs.CopyVerdict.{copy_verdict, awaits_verdict}
+use Rattle.trace_events.specs.CopyVerdict.{copy_verdict, awaits_verdict}
 
 abbrev pub is_same_outcome : Outcome → Outcome → Bool
 is_same_outcome Accepted Accepted = true

@@ -13,7 +13,7 @@ use Rattle.trace_events.specs.Credit.{link_credit, begins_outgoing}
 use Rattle.trace_events.specs.Incoming.{address_of, incoming_at, is_complete}
 use Rattle.trace_events.specs.Incoming as incoming
 use Rattle.trace_events.specs.Link.{is_receiver}
-use Rattle.trace_clauses.specs.Outcome.{row}
+use Rattle.trace_events.specs.Outcome.{row}
 use Rattle.trace_events.specs.Outgoing.{outgoing_deliveries, names, noted}
 use Rattle.trace_events.specs.Outgoing as outgoing
 use Rattle.trace_events.specs.Waiting.{is_of_multicast}

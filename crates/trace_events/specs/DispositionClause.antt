@@ -6,7 +6,7 @@ use Rattle.capture_form.specs.Rules.{RuleSet}
 use Rattle.trace_events.specs.Words.{is_some_and, are_same_octets}
 use Rattle.trace_events.specs.Event.{Event, Incoming}
 use Rattle.trace_events.specs.Incoming.{incoming_at}
-use Rattle.trace_clauses.specs.Outcome.{may_be_told, row}
+use Rattle.trace_events.specs.Outcome.{may_be_told, row}
 use Rattle.pairing_cert.specs.declared.note.Note.TheVariants as notes
 
 -- settled, and of one id

@@ -14,8 +14,8 @@ use Rattle.trace_events.specs.Outgoing.{is_part, pairing, decision}
 use Rattle.trace_events.specs.Waiting.{is_of_multicast, is_waiting, is_gone}
 use Rattle.trace_events.specs.Queue.{pairs}
 use Rattle.trace_events.specs.Work.{decides_now}
-use Rattle.trace_clauses.specs.BestVerdict.{has_all_verdicts}
-use Rattle.trace_clauses.specs.Outcome.{is_sent_settled, is_to_tell}
+use Rattle.trace_events.specs.BestVerdict.{has_all_verdicts}
+use Rattle.trace_events.specs.Outcome.{is_sent_settled, is_to_tell}
 
 -- all that are to be told, the first begun first
 abbrev pub outcomes_to_tell : RuleSet → List Event → List Incoming

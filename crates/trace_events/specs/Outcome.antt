@@ -15,8 +15,8 @@ use Rattle.trace_events.specs.Disposition.{terminal_state}
 use Rattle.trace_events.specs.Incoming.{is_complete, is_settled, is_told}
 use Rattle.trace_events.specs.Outgoing.{pairing, decision, is_sent}
 use Rattle.trace_events.specs.Waiting.{is_of_multicast, is_gone}
-use Rattle.trace_clauses.specs.Written.{spoken_octets, written_outcome}
-use Rattle.trace_clauses.specs.BestVerdict.{multicast_row}
+use Rattle.trace_events.specs.Written.{spoken_octets, written_outcome}
+use Rattle.trace_events.specs.BestVerdict.{multicast_row}
 
 -- ---- states, as octets
 

@@ -3,20 +3,20 @@
 ghost use Rattle.std.specs.Prelude.{◌≡◌, ℕ, List, ◌∷◌, ◌++◌, ◌==◌, true, false, IsTrue, ◌&&◌, Some, is_some, option_map};
 ghost use Rattle.capture_form.specs.declared.records.Record.{Record};
 ghost use Rattle.capture_form.specs.Rules.{RuleSet};
-ghost use Rattle.trace_clauses.specs.declared.clause.Clause.{Clause};
+ghost use Rattle.trace_events.specs.declared.clause.Clause.{Clause};
 ghost use Rattle.flow_counts.specs.Parts as counted;
 ghost use Rattle.trace_events.specs.Event.{Event, Link, Incoming};
 ghost use Rattle.trace_events.specs.declared.session.Session.{Session};
 ghost use Rattle.trace_events.specs.Session.{live_session, session_at};
 ghost use Rattle.trace_events.specs.Link.{session_link, link_at};
 ghost use Rattle.trace_events.specs.History.{history};
-ghost use Rattle.trace_clauses.specs.Clauses.{first_broken, is_lawful};
+ghost use Rattle.trace_events.specs.Clauses.{first_broken, is_lawful};
 ghost use Rattle.trace_events.specs.Incoming.{incoming_at, in_progress, is_complete, is_told, payload};
 ghost use Rattle.trace_events.specs.Waiting.{is_undecided, is_undecided_of, is_waiting, is_gone};
 ghost use Rattle.trace_events.specs.Fault.{is_id_in_use};
 ghost use Rattle.trace_events.specs.Parts.{part_events, partial_of};
-ghost use Rattle.trace_clauses.specs.Laws.{IsWithinWindow, IsWithinCredit};
-ghost use Rattle.trace_clauses.specs.Kept.{AtEach, StoodWithin, WentToAddress, HasCarried, IsOfRow, ReachesOne, ToldOnce};
+ghost use Rattle.trace_events.specs.Laws.{IsWithinWindow, IsWithinCredit};
+ghost use Rattle.trace_events.specs.Kept.{AtEach, StoodWithin, WentToAddress, HasCarried, IsOfRow, ReachesOne, ToldOnce};
 
 /// The laws of lawful captures. The function does nothing: its contract is the laws.
 pub fn laws_of_captures()

@@ -37,7 +37,7 @@ pub enum Clause {
 
 impl Clause {
     ghost use Rattle.std.specs.Prelude.{◌≡◌};
-    ghost use Rattle.trace_clauses.specs.ClauseNames.{clause_name};
+    ghost use Rattle.trace_events.specs.ClauseNames.{clause_name};
 
     /// The clause's name, as a verdict prints it.
     fn name(self) -> &'static str
@@ -64,7 +64,7 @@ impl Clause {
 
 impl fmt::Display for Clause {
     ghost use Rattle.std.specs.Prelude.{Some};
-    ghost use Rattle.trace_clauses.specs.ClauseNames.{clause_name};
+    ghost use Rattle.trace_events.specs.ClauseNames.{clause_name};
 
     ghost output = { λ clause. Some (clause_name clause) };
 
