@@ -1,6 +1,6 @@
 use Rattle.std.proofs.Common.{◌∙◌, sym}
-use Rattle.trace_values.proofs.Decimals.{no_digit, last_differs, last_alone, last_agrees}
-use Rattle.trace_values.proofs.asking.+is_decimal.Goals as goal
+use Rattle.trace_events.proofs.Decimals.{no_digit, last_differs, last_alone, last_agrees}
+use Rattle.trace_events.proofs.asking.+is_decimal.Goals as goal
 
 pub returns-in_default : goal.returns-in_default
 returns-in_default t c = sym (no_digit c.args.octets.now c.args.number c.ranges.number.fits c.in_default.ensures.cases)

@@ -35,10 +35,10 @@ pub struct Frame<'a> {
 impl<'a> Frame<'a> {
     ghost use Rattle.std.specs.Prelude.{◌≡◌, option_map};
     ghost use Rattle.trace_events.specs.Frame.{frame_read, spoken_in, channel_in};
-    ghost use Rattle.trace_values.specs.View.{frame_view, spoken_view};
+    ghost use Rattle.trace_events.specs.View.{frame_view, spoken_view};
 
     /// The octets, read.
-    #[tactic(auto, unfolding(trace_events::specs::Frame::frame_read))]
+    #[tactic(auto, unfolding(crate::specs::Frame::frame_read))]
     pub fn read(octets: &'a [u8]) -> Frame<'a>
         ensures { frame_view result ≡ frame_read octets.now }
     {
@@ -74,7 +74,7 @@ impl<'a> Frame<'a> {
 impl<'a> Body<'a> {
     ghost use Rattle.std.specs.Prelude.{◌≡◌};
     ghost use Rattle.trace_events.specs.Frame.{body_by};
-    ghost use Rattle.trace_values.specs.View.{body_view};
+    ghost use Rattle.trace_events.specs.View.{body_view};
 
     /// What the body of a frame of this kind is.
     fn of(kind: FrameKind, channel: u16, octets: &'a [u8]) -> Body<'a>

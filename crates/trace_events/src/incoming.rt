@@ -25,7 +25,7 @@ fn is_last_part(transfer: &Transfer) -> bool
 impl<'a, 'r, 'm> Event<'a, 'r, 'm> {
     ghost use Rattle.std.specs.Prelude.{◌≡◌, option_map};
     ghost use Rattle.trace_events.specs.Incoming as law;
-    ghost use Rattle.trace_values.specs.View.{incoming_view, event_view};
+    ghost use Rattle.trace_events.specs.View.{incoming_view, event_view};
 
     /// It is one of the delivery's parts.
     pub fn is_incoming_part(&self, delivery: &Incoming) -> bool

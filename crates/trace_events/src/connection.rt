@@ -7,7 +7,7 @@ use amqp_perf::Performative;
 impl<'a> Frame<'a> {
     ghost use Rattle.std.specs.Prelude.{◌≡◌};
     ghost use Rattle.trace_events.specs.Connection.{says_close};
-    ghost use Rattle.trace_values.specs.View.{frame_view};
+    ghost use Rattle.trace_events.specs.View.{frame_view};
 
     fn says_close(&self) -> bool
         ensures { result ≡ says_close (frame_view self.now) }
@@ -22,7 +22,7 @@ impl<'a> Frame<'a> {
 impl<'a> Moment<'a> {
     ghost use Rattle.std.specs.Prelude.{◌≡◌};
     ghost use Rattle.trace_events.specs.Connection.{is_final};
-    ghost use Rattle.trace_values.specs.View.{moment_view};
+    ghost use Rattle.trace_events.specs.View.{moment_view};
 
     /// A close in either direction, the end of the device, or octets that stopped being frames.
     pub fn is_final(&self) -> bool

@@ -4,12 +4,12 @@ ghost use Rattle.std.specs.Prelude.{◌≡◌, option_map};
 ghost use Rattle.amqp_perf.specs.View.{attach_fields};
 ghost use Rattle.amqp_perf.specs.NestedViews.{address_view, terminus_view, target_view};
 ghost use Rattle.trace_events.specs.Link.{opens_link, address_text, source_address, target_address, address_at, first_count, is_settled_mode};
-ghost use Rattle.trace_values.specs.Answering.{their_first_count};
-ghost use Rattle.trace_values.specs.View.{event_view};
+ghost use Rattle.trace_events.specs.Answering.{their_first_count};
+ghost use Rattle.trace_events.specs.View.{event_view};
 
 use crate::event::{Event, Link};
+use crate::session::Session;
 use amqp_perf::{Address, Attach, Role, SenderSettleMode, Target, Terminus};
-use trace_events::Session;
 
 /// An attach with source and target opens a link; one without both refuses it (2.6.3).
 pub fn opens_link(attach: &Attach) -> bool
@@ -88,8 +88,8 @@ impl<'a> Link<'a> {
     ghost use Rattle.std.specs.Prelude.{◌≡◌};
     ghost use Rattle.amqp_perf.specs.View.{attach_fields};
     ghost use Rattle.trace_events.specs.Link.{is_anonymous, is_producer, is_consumer};
-    ghost use Rattle.trace_values.specs.Answering.{link_answering};
-    ghost use Rattle.trace_values.specs.View.{link_view};
+    ghost use Rattle.trace_events.specs.Answering.{link_answering};
+    ghost use Rattle.trace_events.specs.View.{link_view};
 
     /// The link that an Out attach, in this record, opens in answer to the client's of this initial-delivery-count.
     pub fn new(number: u64, session: Session, ours: &Attach<'a>, their_first_count: u32) -> Link<'a>
@@ -133,7 +133,7 @@ impl<'a, 'r, 'm> Event<'a, 'r, 'm> {
     ghost use Rattle.std.specs.Prelude.{◌≡◌, option_map};
     ghost use Rattle.trace_events.specs.Link.{attaches_in, attaches_out, detaches_in, detaches_out, opened_consumer};
     ghost use Rattle.trace_events.specs.Ends.{replaces_link, ends_link};
-    ghost use Rattle.trace_values.specs.View.{link_view, event_view};
+    ghost use Rattle.trace_events.specs.View.{link_view, event_view};
 
     /// An attach of the handle on the session, from the client.
     pub fn attaches_in(&self, session: Session, handle: u32) -> bool

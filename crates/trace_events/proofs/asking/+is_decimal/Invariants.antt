@@ -1,4 +1,4 @@
-use Rattle.trace_values.proofs.asking.+is_decimal.Given as goal
+use Rattle.trace_events.proofs.asking.+is_decimal.Given as goal
 
 abbrev pub decreases-is_decimal : goal.decreases-is_decimal
 decreases-is_decimal l = l.number

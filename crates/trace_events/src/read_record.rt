@@ -2,7 +2,7 @@
 
 ghost use Rattle.std.specs.Prelude.{◌≡◌};
 ghost use Rattle.trace_events.specs.History as law;
-ghost use Rattle.trace_values.specs.View.{moment_view};
+ghost use Rattle.trace_events.specs.View.{moment_view};
 
 use crate::event::Moment;
 use crate::frame::Frame;
@@ -21,7 +21,7 @@ impl<'m> Model for ReadRecord<'m> {
     ghost use Rattle.std.specs.Prelude.{◌≡◌};
     ghost use Rattle.capture_form.specs.declared.records.Record.{Record};
     ghost use Rattle.trace_events.specs.History.{moment_of};
-    ghost use Rattle.trace_values.specs.View.{moment_view};
+    ghost use Rattle.trace_events.specs.View.{moment_view};
 
     ghost Value = { Record };
 
@@ -33,7 +33,7 @@ impl<'m> Model for ReadRecord<'m> {
 impl<'m> ReadRecord<'m> {
     ghost use Rattle.std.specs.Prelude.{◌≡◌};
     ghost use Rattle.trace_events.specs.History.{moment_of};
-    ghost use Rattle.trace_values.specs.View.{moment_view};
+    ghost use Rattle.trace_events.specs.View.{moment_view};
 
     /// The record, read.
     pub fn of(entry: &'m Record) -> ReadRecord<'m>

@@ -27,7 +27,7 @@ impl<'a, 'r, 'm> Event<'a, 'r, 'm> {
     ghost use Rattle.trace_events.specs.Said.{out_transfer};
     ghost use Rattle.trace_events.specs.Outgoing as law;
     ghost use Rattle.trace_events.specs.Queue.{pairs};
-    ghost use Rattle.trace_values.specs.View.{link_view, incoming_view, outgoing_view, event_view};
+    ghost use Rattle.trace_events.specs.View.{link_view, incoming_view, outgoing_view, event_view};
 
     /// It is one of the delivery's parts.
     pub fn is_outgoing_part(&self, delivery: &Outgoing) -> bool

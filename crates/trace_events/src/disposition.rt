@@ -5,7 +5,7 @@ ghost use Rattle.amqp_perf.specs.NestedViews.{state_view};
 ghost use Rattle.amqp_perf.specs.View.{disposition_fields};
 ghost use Rattle.flow_counts.specs.Covers as ranges;
 ghost use Rattle.trace_events.specs.Disposition as law;
-ghost use Rattle.trace_values.specs.View.{decision_view};
+ghost use Rattle.trace_events.specs.View.{decision_view};
 
 use amqp_perf::{Disposition, Outcome, State};
 

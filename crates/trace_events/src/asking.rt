@@ -4,13 +4,13 @@
 ghost use Rattle.std.specs.Prelude.{◌≡◌, decimal, codes, ◌++◌, bytes_eq, option_map};
 ghost use Rattle.amqp_perf.specs.View.{attach_fields};
 ghost use Rattle.amqp_perf.specs.NestedViews.{target_view};
-ghost use Rattle.trace_clauses.specs.LinkClause as law;
+ghost use Rattle.trace_events.specs.LinkClause as law;
 ghost use Rattle.trace_events.specs.Words.{is_some_and};
 
 use crate::event::Event;
+use crate::fault::Fault;
 use crate::link::{address_at, opens_link};
 use amqp_perf::{Attach, ReceiverSettleMode, Role, SenderSettleMode, Target};
-use trace_events::Fault;
 
 /// What the address of a dynamic source begins with; the number of the attach's record follows.
 const DYNAMIC: &[u8] = b"dyn/";
@@ -104,8 +104,8 @@ pub struct Asking<'a> {
 impl<'a> AskedAddress<'a> {
     ghost use Rattle.std.specs.Prelude.{◌≡◌, bytes_eq};
     ghost use Rattle.amqp_perf.specs.View.{attach_fields};
-    ghost use Rattle.trace_clauses.specs.LinkClause.{asked_address};
-    ghost use Rattle.trace_values.specs.View.{address_view};
+    ghost use Rattle.trace_events.specs.LinkClause.{asked_address};
+    ghost use Rattle.trace_events.specs.View.{address_view};
 
     /// That of the attach in this record: a made up one for a dynamic source, else its target's or its source's.
     fn of(number: u64, theirs: &Attach<'a>) -> AskedAddress<'a>
@@ -132,8 +132,8 @@ impl<'a> AskedAddress<'a> {
 impl<'a> Asking<'a> {
     ghost use Rattle.std.specs.Prelude.{◌≡◌};
     ghost use Rattle.amqp_perf.specs.View.{attach_fields};
-    ghost use Rattle.trace_clauses.specs.LinkClause as law;
-    ghost use Rattle.trace_values.specs.View.{asking_view, event_view};
+    ghost use Rattle.trace_events.specs.LinkClause as law;
+    ghost use Rattle.trace_events.specs.View.{asking_view, event_view};
 
     /// What the attach of this event asks for.
     pub fn of(event: &Event, theirs: &Attach<'a>) -> Asking<'a>

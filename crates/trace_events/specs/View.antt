@@ -2,22 +2,22 @@
 use Rattle.std.specs.Prelude.{ℕ, List, ◌++◌, Option, Some, None, option_map, codes, decimal}
 use Rattle.amqp_perf.specs.Nested.{StateFields}
 use Rattle.amqp_perf.specs.View as performatives
-use Rattle.trace_values.specs.declared.disposition.Decision.{Decision}
-use Rattle.trace_values.specs.declared.disposition.Decision.TheVariants as decisions
-use Rattle.trace_values.specs.declared.frame.Frame.{Frame}
-use Rattle.trace_values.specs.declared.frame.Spoken.{Spoken}
-use Rattle.trace_values.specs.declared.frame.Body.{Body}
-use Rattle.trace_values.specs.declared.frame.Body.TheVariants as bodies
-use Rattle.trace_values.specs.declared.event.Link.{Link}
-use Rattle.trace_values.specs.declared.event.Incoming.{Incoming}
-use Rattle.trace_values.specs.declared.event.Outgoing.{Outgoing}
-use Rattle.trace_values.specs.declared.event.Moment.{Moment}
-use Rattle.trace_values.specs.declared.event.Moment.TheVariants as moments
-use Rattle.trace_values.specs.declared.event.Event.{Event}
-use Rattle.trace_values.specs.declared.asking.AskedAddress.{AskedAddress}
-use Rattle.trace_values.specs.declared.asking.AskedAddress.TheVariants as addresses
-use Rattle.trace_values.specs.declared.asking.Asking.{Asking}
-use Rattle.trace_clauses.specs.LinkClause as clauses
+use Rattle.trace_events.specs.declared.disposition.Decision.{Decision}
+use Rattle.trace_events.specs.declared.disposition.Decision.TheVariants as decisions
+use Rattle.trace_events.specs.declared.frame.Frame.{Frame}
+use Rattle.trace_events.specs.declared.frame.Spoken.{Spoken}
+use Rattle.trace_events.specs.declared.frame.Body.{Body}
+use Rattle.trace_events.specs.declared.frame.Body.TheVariants as bodies
+use Rattle.trace_events.specs.declared.event.Link.{Link}
+use Rattle.trace_events.specs.declared.event.Incoming.{Incoming}
+use Rattle.trace_events.specs.declared.event.Outgoing.{Outgoing}
+use Rattle.trace_events.specs.declared.event.Moment.{Moment}
+use Rattle.trace_events.specs.declared.event.Moment.TheVariants as moments
+use Rattle.trace_events.specs.declared.event.Event.{Event}
+use Rattle.trace_events.specs.declared.asking.AskedAddress.{AskedAddress}
+use Rattle.trace_events.specs.declared.asking.AskedAddress.TheVariants as addresses
+use Rattle.trace_events.specs.declared.asking.Asking.{Asking}
+use Rattle.trace_events.specs.LinkClause as clauses
 use Rattle.trace_events.specs.Frame as frames
 use Rattle.trace_events.specs.Event as law
 

@@ -1,14 +1,14 @@
 //! What moves the windows of a session (part 2 of the standard, section 2.5.6).
 
 use crate::event::{Event, Moment};
+use crate::session::Session;
 use amqp_perf::Performative;
 use flow_counts::WindowEvent;
-use trace_events::Session;
 
 impl<'a> Moment<'a> {
     ghost use Rattle.std.specs.Prelude.{◌≡◌};
     ghost use Rattle.trace_events.specs.Window.{window_event};
-    ghost use Rattle.trace_values.specs.View.{moment_view};
+    ghost use Rattle.trace_events.specs.View.{moment_view};
 
     /// How it moves the windows of the session on which it stands. `None` where it is neither a flow nor a transfer.
     pub fn window_event(&self) -> Option<WindowEvent>
@@ -37,7 +37,7 @@ impl<'a, 'r, 'm> Event<'a, 'r, 'm> {
     ghost use Rattle.std.specs.Prelude.{◌≡◌, if◌then◌else◌, None};
     ghost use Rattle.trace_events.specs.Event.{is_on_session};
     ghost use Rattle.trace_events.specs.Window.{window_event};
-    ghost use Rattle.trace_values.specs.View.{event_view};
+    ghost use Rattle.trace_events.specs.View.{event_view};
 
     /// How it moves the windows of this session. `None` where it does not, or does not stand on it.
     pub fn window_event(&self, session: Session) -> Option<WindowEvent>

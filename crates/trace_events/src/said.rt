@@ -3,13 +3,13 @@
 
 use crate::event::{Event, Link, Moment};
 use crate::frame::{Frame, Spoken};
+use crate::session::Session;
 use amqp_perf::{Attach, Begin, Detach, Disposition, Flow, Open, Performative, Role, Transfer};
-use trace_events::Session;
 
 impl<'a> Moment<'a> {
     ghost use Rattle.std.specs.Prelude.{◌≡◌, option_map};
     ghost use Rattle.trace_events.specs.Event.{in_frame, out_frame, is_opened, is_lost, is_broken, is_out, spoken_of, channel_of};
-    ghost use Rattle.trace_values.specs.View.{spoken_view, frame_view, moment_view};
+    ghost use Rattle.trace_events.specs.View.{spoken_view, frame_view, moment_view};
 
     fn in_frame(&self) -> Option<&Frame<'a>>
         ensures { option_map (λ frame. frame_view frame.now) result ≡ in_frame (moment_view self.now) }
@@ -83,8 +83,8 @@ impl<'a, 'r, 'm> Event<'a, 'r, 'm> {
     ghost use Rattle.amqp_perf.specs.View.{open_fields, attach_fields, transfer_fields, disposition_fields, detach_fields};
     ghost use Rattle.trace_events.specs.Event.{is_on_channel, is_on_session, is_on_link};
     ghost use Rattle.trace_events.specs.Said as said;
-    ghost use Rattle.trace_clauses.specs.Verdict.{tells_outcome};
-    ghost use Rattle.trace_values.specs.View.{spoken_view, link_view, event_view};
+    ghost use Rattle.trace_events.specs.Verdict.{tells_outcome};
+    ghost use Rattle.trace_events.specs.View.{spoken_view, link_view, event_view};
 
     /// It stands on the channel of the connection.
     pub fn is_on_channel(&self, connection: u32, channel: u16) -> bool

@@ -1,9 +1,10 @@
 //! A record of a capture, with what the records before it say of it.
 
+use crate::fault::Fault;
 use crate::frame::Frame;
+use crate::session::Session;
 use amqp_perf::{Role, Transfer};
 use pairing_cert::Note;
-use trace_events::{Fault, Session};
 
 /// A link, named by the record of its Out attach, whose role it has: a receiver's is a producer's link, a sender's a
 /// consumer's (part 2, section 2.6).
@@ -90,7 +91,7 @@ impl<'a> Incoming<'a> {
     ghost use Rattle.std.specs.Prelude.{◌≡◌};
     ghost use Rattle.amqp_perf.specs.View.{transfer_fields};
     ghost use Rattle.trace_events.specs.History.{new_incoming};
-    ghost use Rattle.trace_values.specs.View.{incoming_view, link_view};
+    ghost use Rattle.trace_events.specs.View.{incoming_view, link_view};
 
     /// The delivery that a transfer, in this record, begins.
     pub fn new(number: u64, transfer: &Transfer, link: Link<'a>) -> Incoming<'a>
@@ -109,7 +110,7 @@ impl<'a> Outgoing<'a> {
     ghost use Rattle.std.specs.Prelude.{◌≡◌};
     ghost use Rattle.amqp_perf.specs.View.{transfer_fields};
     ghost use Rattle.trace_events.specs.History.{new_outgoing};
-    ghost use Rattle.trace_values.specs.View.{outgoing_view, link_view};
+    ghost use Rattle.trace_events.specs.View.{outgoing_view, link_view};
 
     /// The delivery that a transfer, in this record, begins.
     pub fn new(number: u64, note: Note, transfer: &Transfer, link: Link<'a>) -> Outgoing<'a>

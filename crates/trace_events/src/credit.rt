@@ -18,8 +18,8 @@ impl<'a, 'r, 'm> Event<'a, 'r, 'm> {
     ghost use Rattle.std.specs.Prelude.{◌≡◌, option_map, if◌then◌else◌, None};
     ghost use Rattle.trace_events.specs.Event.{is_on_link};
     ghost use Rattle.trace_events.specs.Credit as law;
-    ghost use Rattle.trace_values.specs.View.{event_view, link_view};
-    ghost use Rattle.trace_values.specs.LinkEvents.{link_event_view};
+    ghost use Rattle.trace_events.specs.View.{event_view, link_view};
+    ghost use Rattle.trace_events.specs.LinkEvents.{link_event_view};
 
     /// A delivery from the client begins with it.
     pub fn begins_incoming(&self) -> bool

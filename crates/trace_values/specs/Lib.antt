@@ -1,4 +1,0 @@
-pub mod Answering
-pub mod Known
-pub mod LinkEvents
-pub mod View
