@@ -2,7 +2,7 @@
 use Rattle.std.specs.Prelude.{◌≡◌, [], ◌∷◌, ◌++◌, replicate, codes, true, None, refl}
 use Rattle.pairing_cert.specs.declared.note.Why.TheVariants.{C}
 use Rattle.capture_form.specs.declared.rules.Distribution.TheVariants.{Closest, Balanced, Multicast}
-use Rattle.trace_clauses.proofs.Captures.{rule, opened, broken, client, router, paired, told}
+use Rattle.trace_events.proofs.Captures.{rule, opened, broken, client, router, paired, told}
 use Rattle.trace_duties.proofs.FirstNeglected.{duties_of, hex}
 use Rattle.trace_duties.proofs.SharedFrames.{producer_open, router_open, client_begin, router_begin, producer_attach, producer_attached, consumer_open, consumer_attach, consumer_attached, credit_given, delivery, second_delivery, carried, second_carried, accepted, closed, ended, shut, producer_and_consumer_with_credit, producer_attached_alone, producer_begun, producer_opened}
 

@@ -12,13 +12,13 @@ use Rattle.trace_events.specs.Link.{is_live, link_at}
 use Rattle.trace_events.specs.Incoming.{incoming_at}
 use Rattle.trace_events.specs.Due.{is_unsent}
 use Rattle.trace_events.specs.History.{history, judge}
-use Rattle.trace_clauses.specs.TransferClause.{is_in_order}
-use Rattle.trace_clauses.specs.Written.{spoken_octets}
+use Rattle.trace_events.specs.TransferClause.{is_in_order}
+use Rattle.trace_events.specs.Written.{spoken_octets}
 use Rattle.trace_duties.specs.Diligent.{is_diligent}
 use Rattle.trace_duties.specs.Order.{is_earliest}
 use Rattle.trace_duties.specs.Turn.{stands_in_turn, is_ordered}
 use Rattle.trace_duties.proofs.Duties.{Duty, left, neglected, is_window_left}
-use Rattle.trace_clauses.proofs.Captures.{unmarked}
+use Rattle.trace_events.proofs.Captures.{unmarked}
 
 -- the reading and the writing of octets are opened here, once
 

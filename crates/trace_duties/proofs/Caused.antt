@@ -13,7 +13,7 @@ use Rattle.trace_events.specs.Incoming.{incoming_deliveries}
 use Rattle.trace_events.specs.Outgoing.{outgoing_deliveries}
 use Rattle.trace_events.specs.Settling.{is_to_settle}
 use Rattle.trace_events.proofs.Along.{and_first, and_last}
-use Rattle.trace_clauses.specs.Outcome.{is_to_tell}
+use Rattle.trace_events.specs.Outcome.{is_to_tell}
 use Rattle.trace_duties.specs.Quiet.{none_is_untold, none_is_unsettled, none_stands_still, none_waits_in_vain, copies_are_sent, none_is_undrained, none_lacks_credit}
 use Rattle.trace_duties.specs.Turn.{is_all_told, is_all_sent, is_all_drained, disposition_in_turn, transfer_in_turn, link_flow_in_turn, is_all_credited, is_in_place}
 use Rattle.trace_duties.proofs.QuietLists.{each-all}

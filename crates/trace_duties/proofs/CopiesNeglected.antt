@@ -5,7 +5,7 @@ use Rattle.pairing_cert.specs.declared.note.Why.TheVariants.{M}
 use Rattle.capture_form.specs.declared.records.Record.{Record}
 use Rattle.capture_form.specs.declared.rules.Distribution.TheVariants.{Multicast}
 use Rattle.capture_form.specs.Rules.{RuleText}
-use Rattle.trace_clauses.proofs.Captures.{rule, client, opened, paired, router, told}
+use Rattle.trace_events.proofs.Captures.{rule, client, opened, paired, router, told}
 use Rattle.trace_duties.proofs.Duties.{Outcome}
 use Rattle.trace_duties.proofs.FirstNeglected.{duties_of, hex}
 use Rattle.trace_duties.proofs.SharedFrames.{accepted, accepted_unsettled, carried, client_begin, closed, consumer_open, credit_of_1, delivery, news_consumer_attach, news_consumer_attached, news_producer, router_begin, router_open, second_carried, settles}

@@ -19,18 +19,18 @@ use Rattle.trace_events.proofs.DueSteps.{is_unsent-stays}
 use Rattle.trace_events.proofs.Judged.{AreJudged}
 use Rattle.trace_events.proofs.OutgoingSteps.{names_on}
 use Rattle.trace_events.proofs.StepWords.{and-false, or-true}
-use Rattle.trace_clauses.specs.Clauses.{first_broken}
-use Rattle.trace_clauses.specs.TransferClause.{is_in_order}
-use Rattle.trace_clauses.proofs.CompletionOrder.{before-one_way, before-not_itself, before-numbers, one-before}
-use Rattle.trace_clauses.proofs.IncomingProgress.{judged-kept}
-use Rattle.trace_clauses.proofs.LinkEnds.{is_live-next}
-use Rattle.trace_clauses.proofs.OneConsumer.{or-right, not-true}
-use Rattle.trace_clauses.proofs.Parts.{IsKept}
-use Rattle.trace_clauses.proofs.UnsentCopies.{unsent_complete, unsent_listed, unsent_in_order}
-use Rattle.trace_clauses.proofs.WaitingQueue.{completed_numbered, each_completed, all_contained, find_has, contains_cases}
+use Rattle.trace_events.specs.Clauses.{first_broken}
+use Rattle.trace_events.specs.TransferClause.{is_in_order}
+use Rattle.trace_events.proofs.CompletionOrder.{before-one_way, before-not_itself, before-numbers, one-before}
+use Rattle.trace_events.proofs.IncomingProgress.{judged-kept}
+use Rattle.trace_events.proofs.LinkEnds.{is_live-next}
+use Rattle.trace_events.proofs.OneConsumer.{or-right, not-true}
+use Rattle.trace_events.proofs.Parts.{IsKept}
+use Rattle.trace_events.proofs.UnsentCopies.{unsent_complete, unsent_listed, unsent_in_order}
+use Rattle.trace_events.proofs.WaitingQueue.{completed_numbered, each_completed, all_contained, find_has, contains_cases}
 use Rattle.trace_duties.specs.Quiet.{has_earlier_unsent}
 use Rattle.trace_duties.specs.Order.{CopiesInOrder, is_earliest}
-use Rattle.trace_clauses.proofs.LinkOrder.{BeginsWith, begins, begins-on, begins-names, link-cases, new-in_order, in_order-completed, in_order-stays}
+use Rattle.trace_events.proofs.LinkOrder.{BeginsWith, begins, begins-on, begins-names, link-cases, new-in_order, in_order-completed, in_order-stays}
 use Rattle.trace_duties.proofs.PicksInOrder.{none-passes, none-before, first-pair}
 
 -- ---- what is known of a copy goes by the number of its delivery

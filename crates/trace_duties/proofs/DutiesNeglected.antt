@@ -3,7 +3,7 @@
 use Rattle.std.specs.Prelude.{◌≡◌, [], ◌∷◌, ◌++◌, replicate, codes, false, Some, refl}
 use Rattle.pairing_cert.specs.declared.note.Why.TheVariants.{C}
 use Rattle.capture_form.specs.declared.rules.Distribution.TheVariants.{Multicast}
-use Rattle.trace_clauses.proofs.Captures.{rule, opened, client, router, paired, told}
+use Rattle.trace_events.proofs.Captures.{rule, opened, client, router, paired, told}
 use Rattle.trace_duties.proofs.Duties.{Answer, Waiting, Progress, Outcome, Credit, Drain, Copies, Settling, Pick, NothingElse}
 use Rattle.trace_duties.proofs.FirstNeglected.{duties_of, hex}
 use Rattle.trace_duties.proofs.SharedFrames.{producer_open, router_open, client_begin, router_begin, producer_attach, producer_attached, consumer_open, consumer_attach, consumer_attached, credit_given, credit_of_1, credit_of_10, delivery, second_delivery, carried, accepted, accepted_unsettled, closed, ended, shut, producer_and_consumer_with_credit, news_producer_and_consumer, producer_and_consumer, news_producer, producer_attached_alone, producer_begun, producer_opened}

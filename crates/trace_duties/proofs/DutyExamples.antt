@@ -8,11 +8,11 @@ use Rattle.amqp_perf.specs.Meaning.{AnAttach, AFlow, ATransfer, ADisposition, An
 use Rattle.pairing_cert.specs.declared.note.Why.TheVariants.{C, S}
 use Rattle.capture_form.specs.declared.records.Record.{Record}
 use Rattle.capture_form.specs.declared.rules.Distribution.TheVariants.{Closest, Multicast}
-use Rattle.trace_clauses.specs.Written.{written_open, written_begin, written_close, written_end, written_detach, written_settling}
-use Rattle.trace_clauses.proofs.Captures.{rule, opened, lost, broken}
+use Rattle.trace_events.specs.Written.{written_open, written_begin, written_close, written_end, written_detach, written_settling}
+use Rattle.trace_events.proofs.Captures.{rule, opened, lost, broken}
 use Rattle.trace_duties.proofs.Captures.{diligence_of, neglected_of, is_window_left_behind}
 use Rattle.trace_duties.proofs.Duties.{Waiting, Progress, Outcome, Credit, Drain, Copies, Settling, Answer, Pick, NothingElse}
-use Rattle.trace_clauses.proofs.Made.{from, from_with, write, to, carry, tell, open_of, begin_of, bare, receives_from, session_flow, gives, shows, draining, echoing, first, next, with_more, as_settled, disposes, accepted, detach_of, q, hi, connect, join, terminus, producer, consumer, pair, sent, sent_by, written_to_consumer, written_refusal}
+use Rattle.trace_events.proofs.Made.{from, from_with, write, to, carry, tell, open_of, begin_of, bare, receives_from, session_flow, gives, shows, draining, echoing, first, next, with_more, as_settled, disposes, accepted, detach_of, q, hi, connect, join, terminus, producer, consumer, pair, sent, sent_by, written_to_consumer, written_refusal}
 
 -- ---- each neglected alone
 

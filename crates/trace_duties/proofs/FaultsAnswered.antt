@@ -1,6 +1,6 @@
 -- Captures with a fault of a client's frame, each answered as it is to be.
 use Rattle.std.specs.Prelude.{◌≡◌, [], ◌∷◌, ◌++◌, replicate, codes, true, None, refl}
-use Rattle.trace_clauses.proofs.Captures.{opened, client, router}
+use Rattle.trace_events.proofs.Captures.{opened, client, router}
 use Rattle.trace_duties.proofs.FirstNeglected.{duties_of, hex}
 use Rattle.trace_duties.proofs.SharedFrames.{producer_open, router_open, client_begin, router_begin, consumer_open, consumer_attach, consumer_attached, delivery, ended, shut, producer_and_consumer_with_credit, producer_attached_alone, producer_begun, producer_opened}
 

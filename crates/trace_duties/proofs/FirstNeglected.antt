@@ -9,12 +9,12 @@ use Rattle.capture_form.specs.Rules.{RuleText, RuleSet}
 use Rattle.trace_events.specs.Words.{or_else}
 use Rattle.trace_events.specs.Frame.{Frame, frame_read}
 use Rattle.trace_events.specs.Event.{Event, Moment, Out}
-use Rattle.trace_clauses.specs.Written.{spoken_octets}
+use Rattle.trace_events.specs.Written.{spoken_octets}
 use Rattle.trace_events.specs.History.{history}
 use Rattle.trace_duties.specs.Quiet.{none_waits_in_vain, none_stands_still, none_is_untold, none_lacks_credit, none_lacks_window, none_is_undrained, copies_are_sent, none_is_unsettled}
 use Rattle.trace_duties.specs.Diligent.{group, up_to_input, last_answer, begin_with, is_answered, is_of_answer, is_picked, is_due_frame, is_diligent_history}
 use Rattle.trace_duties.proofs.Duties.{Duty, Waiting, Progress, Outcome, Credit, Window, Drain, Copies, Settling, Answer, Pick, NothingElse}
-use Rattle.trace_clauses.proofs.Captures.{unmarked}
+use Rattle.trace_events.proofs.Captures.{unmarked}
 
 -- ---- what is neglected at a moment
 

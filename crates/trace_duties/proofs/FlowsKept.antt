@@ -2,7 +2,7 @@
 use Rattle.std.specs.Prelude.{◌≡◌, [], ◌∷◌, ◌++◌, replicate, codes, true, None, refl}
 use Rattle.pairing_cert.specs.declared.note.Why.TheVariants.{M}
 use Rattle.capture_form.specs.declared.rules.Distribution.TheVariants.{Multicast}
-use Rattle.trace_clauses.proofs.Captures.{rule, opened, client, router, paired, told}
+use Rattle.trace_events.proofs.Captures.{rule, opened, client, router, paired, told}
 use Rattle.trace_duties.proofs.FirstNeglected.{duties_of, hex}
 use Rattle.trace_duties.proofs.SharedFrames.{router_open, client_begin, router_begin, producer_attached, consumer_open, consumer_attach, consumer_attached, credit_given, news_consumer_attach, news_consumer_attached, credit_of_1, delivery, second_delivery, carried, second_carried, accepted, closed, producer_and_consumer_with_credit, news_producer_and_consumer, news_producer, producer_attached_alone, producer_begun}
 

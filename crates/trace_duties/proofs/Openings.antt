@@ -1,7 +1,7 @@
 -- The openings that the worked captures share.
 use Rattle.std.specs.Prelude.{ℕ, List, [], ◌∷◌, ◌++◌}
 use Rattle.capture_form.specs.declared.records.Record.{Record}
-use Rattle.trace_clauses.proofs.Captures.{opened, client, router}
+use Rattle.trace_events.proofs.Captures.{opened, client, router}
 use Rattle.trace_duties.proofs.WorkedFrames.{open_p, router_open, begin_100, router_begin, producer_of_q, router_to_producer_of_q, consumer_of_q, router_flow_250}
 
 -- a client with a session and a link, each answered: its open, begin and attach, and the answer to the attach

@@ -4,8 +4,8 @@ use Rattle.amqp_perf.specs.declared.attach.SenderSettleMode.TheVariants.{Settled
 use Rattle.amqp_perf.specs.Meaning.{AFlow, ATransfer}
 use Rattle.capture_form.specs.declared.records.Record.{Record}
 use Rattle.capture_form.specs.declared.rules.Distribution.TheVariants.{Multicast}
-use Rattle.trace_clauses.proofs.Captures.{rule, unsent_in, broken_of}
-use Rattle.trace_clauses.proofs.Made.{from, from_with, to, carry, gives, shows, first, as_settled, producer, hi, pair_by, multicast, two_sent_by}
+use Rattle.trace_events.proofs.Captures.{rule, unsent_in, broken_of}
+use Rattle.trace_events.proofs.Made.{from, from_with, to, carry, gives, shows, first, as_settled, producer, hi, pair_by, multicast, two_sent_by}
 use Rattle.trace_duties.proofs.Captures.{is_in_order_on, is_unsent_at, is_in_order_at, is_earliest_by}
 
 -- copies of deliveries 16 and 17 are due to the consumer's link, that of record 13

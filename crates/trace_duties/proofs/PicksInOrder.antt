@@ -19,18 +19,18 @@ use Rattle.trace_events.proofs.IncomingSteps.{address_of-same}
 use Rattle.trace_events.proofs.Along.{and_first, and_last}
 use Rattle.trace_events.proofs.Judged.{AreJudged, IsTransfer, judged-transfer}
 use Rattle.trace_events.proofs.QueueSteps.{is_waiting-stays}
-use Rattle.trace_clauses.specs.Clauses.{first_broken}
-use Rattle.trace_clauses.specs.Kept.{AtEach}
-use Rattle.trace_clauses.specs.TransferClause.{is_in_order}
-use Rattle.trace_clauses.proofs.BegunDeliveries.{begun-own}
-use Rattle.trace_clauses.proofs.ClausesMet.{lawful-past}
-use Rattle.trace_clauses.proofs.CompletionOrder.{before-one_way, before-not_itself, one-before}
-use Rattle.trace_clauses.proofs.IncomingProgress.{judged-kept}
-use Rattle.trace_clauses.proofs.Incomings.{judged-sound}
-use Rattle.trace_clauses.proofs.OneConsumer.{found-at, or-right, not-true}
-use Rattle.trace_clauses.proofs.WaitingQueue.{queued_waits, waits_queued, queued_in_order, find_has, contains_none, contains_first, contains_later, contains_cases}
+use Rattle.trace_events.specs.Clauses.{first_broken}
+use Rattle.trace_events.specs.Kept.{AtEach}
+use Rattle.trace_events.specs.TransferClause.{is_in_order}
+use Rattle.trace_events.proofs.BegunDeliveries.{begun-own}
+use Rattle.trace_events.proofs.ClausesMet.{lawful-past}
+use Rattle.trace_events.proofs.CompletionOrder.{before-one_way, before-not_itself, one-before}
+use Rattle.trace_events.proofs.IncomingProgress.{judged-kept}
+use Rattle.trace_events.proofs.Incomings.{judged-sound}
+use Rattle.trace_events.proofs.OneConsumer.{found-at, or-right, not-true}
+use Rattle.trace_events.proofs.WaitingQueue.{queued_waits, waits_queued, queued_in_order, find_has, contains_none, contains_first, contains_later, contains_cases}
 use Rattle.trace_duties.specs.Diligent.{is_picked, is_next_waiting, is_picked_link, is_due_frame, moment_keeps, all_keep}
-use Rattle.trace_clauses.proofs.LinkOrder.{BeginsWith, begins-address, begins, link-cases, new-in_order, in_order-completed, in_order-stays}
+use Rattle.trace_events.proofs.LinkOrder.{BeginsWith, begins-address, begins, link-cases, new-in_order, in_order-completed, in_order-stays}
 
 -- ---- each pick of a history that kept its duties was kept
 

@@ -1,7 +1,7 @@
 -- Captures in which each delivery that waits goes to the consumer that is picked, and all other duties are kept.
 use Rattle.std.specs.Prelude.{◌≡◌, [], ◌∷◌, ◌++◌, replicate, codes, true, None, refl}
 use Rattle.pairing_cert.specs.declared.note.Why.TheVariants.{C, S, N}
-use Rattle.trace_clauses.proofs.Captures.{opened, lost, client, router, paired, told}
+use Rattle.trace_events.proofs.Captures.{opened, lost, client, router, paired, told}
 use Rattle.trace_duties.proofs.FirstNeglected.{duties_of, hex}
 use Rattle.trace_duties.proofs.SharedFrames.{router_open, client_begin, router_begin, producer_attach, producer_attached, consumer_open, consumer_attach, consumer_attached, credit_given, credit_of_1, credit_of_10, delivery, second_delivery, carried, second_carried, accepted, accepted_unsettled, settles, closed, producer_and_consumer_with_credit, producer_attached_alone, producer_begun}
 

@@ -21,14 +21,14 @@ use Rattle.trace_events.specs.Due.{is_unsent}
 use Rattle.trace_events.specs.Settling.{is_to_settle}
 use Rattle.trace_events.specs.Work.{deliveries_to_settle, unsent_copies}
 use Rattle.trace_events.proofs.Judged.{AreJudged}
-use Rattle.trace_clauses.specs.Outcome.{is_to_tell}
-use Rattle.trace_clauses.specs.Telling.{outcomes_to_tell}
-use Rattle.trace_clauses.specs.FlowClause.{may_be_topped_up, may_be_drained}
-use Rattle.trace_clauses.proofs.IncomingProgress.{judged-kept}
-use Rattle.trace_clauses.proofs.OutcomesToTell.{to_tell_listed}
-use Rattle.trace_clauses.proofs.SettlingList.{to_settle_listed}
-use Rattle.trace_clauses.proofs.UnsentCopies.{unsent_listed}
-use Rattle.trace_clauses.proofs.WaitingQueue.{waits_queued, contains_first, contains_later, contains_none, contains_cases}
+use Rattle.trace_events.specs.Outcome.{is_to_tell}
+use Rattle.trace_events.specs.Telling.{outcomes_to_tell}
+use Rattle.trace_events.specs.FlowClause.{may_be_topped_up, may_be_drained}
+use Rattle.trace_events.proofs.IncomingProgress.{judged-kept}
+use Rattle.trace_events.proofs.OutcomesToTell.{to_tell_listed}
+use Rattle.trace_events.proofs.SettlingList.{to_settle_listed}
+use Rattle.trace_events.proofs.UnsentCopies.{unsent_listed}
+use Rattle.trace_events.proofs.WaitingQueue.{waits_queued, contains_first, contains_later, contains_none, contains_cases}
 use Rattle.trace_duties.specs.Pick.{eligible}
 use Rattle.trace_duties.specs.Quiet.{none_waits_in_vain, stands_still, none_stands_still, none_is_untold, none_lacks_credit, lacks_window, none_lacks_window, none_is_undrained, has_earlier_unsent, is_held_back, copies_are_sent, none_is_unsettled, is_quiet}
 

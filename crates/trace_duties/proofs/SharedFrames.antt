@@ -1,7 +1,7 @@
 -- The frames and the openings that the captures of duties share.
 use Rattle.std.specs.Prelude.{ℕ, List, [], ◌∷◌, codes}
 use Rattle.capture_form.specs.declared.records.Record.{Record}
-use Rattle.trace_clauses.proofs.Captures.{opened, client, router}
+use Rattle.trace_events.proofs.Captures.{opened, client, router}
 use Rattle.trace_duties.proofs.FirstNeglected.{hex}
 
 -- ---- frames

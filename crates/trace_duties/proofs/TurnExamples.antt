@@ -6,10 +6,10 @@ use Rattle.amqp_perf.specs.declared.attach.ReceiverSettleMode.TheVariants.{First
 use Rattle.amqp_perf.specs.Meaning.{AnAttach, AFlow, ATransfer, ADisposition}
 use Rattle.pairing_cert.specs.declared.note.Why.TheVariants.{C, S}
 use Rattle.capture_form.specs.declared.records.Record.{Record}
-use Rattle.trace_clauses.specs.Written.{written_open, written_begin, written_settling}
-use Rattle.trace_clauses.proofs.Captures.{opened}
-use Rattle.trace_clauses.proofs.Made.{from, from_with, write, to, carry, tell, open_of, begin_of, receives_from, session_flow, gives, shows, draining, first, next, with_more, as_settled, disposes, accepted, q, hi, producer, consumer, pair, pair_by, sent, written_to_consumer, multicast}
-use Rattle.trace_clauses.proofs.Copies.{completed}
+use Rattle.trace_events.specs.Written.{written_open, written_begin, written_settling}
+use Rattle.trace_events.proofs.Captures.{opened}
+use Rattle.trace_events.proofs.Made.{from, from_with, write, to, carry, tell, open_of, begin_of, receives_from, session_flow, gives, shows, draining, first, next, with_more, as_settled, disposes, accepted, q, hi, producer, consumer, pair, pair_by, sent, written_to_consumer, multicast}
+use Rattle.trace_events.proofs.Copies.{completed}
 use Rattle.trace_duties.proofs.Captures.{diligence_of, in_turn_by, left_of, order_of}
 use Rattle.trace_duties.proofs.Duties.{Waiting, Progress, Outcome, Credit, Drain, Copies, Settling}
 

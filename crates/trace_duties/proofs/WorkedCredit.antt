@@ -1,8 +1,8 @@
 -- Captures worked by hand: windows, credit and drain.
 use Rattle.std.specs.Prelude.{◌≡◌, List, [], ◌∷◌, ◌++◌, true, Ok, Err, refl}
 use Rattle.capture_form.specs.declared.records.Record.{Record}
-use Rattle.trace_clauses.specs.declared.clause.Clause.TheVariants.{L4, L5}
-use Rattle.trace_clauses.proofs.Captures.{client, router, paired, verdict_of}
+use Rattle.trace_events.specs.declared.clause.Clause.TheVariants.{L4, L5}
+use Rattle.trace_events.proofs.Captures.{client, router, paired, verdict_of}
 use Rattle.trace_duties.proofs.Captures.{diligence_of}
 use Rattle.trace_duties.proofs.Openings.{between}
 use Rattle.trace_duties.proofs.WorkedFrames.{open_c, begin_100, begin_2, begin_3, router_to_consumer_of_q, router_to_consumer_of_q_from_4294967295, flow_2_0_10, flow_3_0_10, flow_100_1_10, flow_100_4294967295_2, flow_100_4294967295_3_behind_two, flow_100_0_5_drain, router_drained_5, transfer_0, transfer_1, transfer_2, transfer_3, transfer_abc, copy_0, copy_1, copy_2, copy_3, copy_a, copy_b, copy_c}

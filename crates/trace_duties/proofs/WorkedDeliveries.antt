@@ -3,8 +3,8 @@ use Rattle.std.specs.Prelude.{◌≡◌, ℕ, zero, suc, ◌+◌, List, [], ◌�
 use Rattle.capture_form.specs.declared.records.Record.{Record}
 use Rattle.capture_form.specs.declared.rules.Distribution.TheVariants.{Multicast}
 use Rattle.pairing_cert.specs.declared.note.Why.TheVariants.{C, L, N, M}
-use Rattle.trace_clauses.specs.declared.clause.Clause.TheVariants.{L8, L11}
-use Rattle.trace_clauses.proofs.Captures.{opened, client, router, paired, told, rule, verdict_of}
+use Rattle.trace_events.specs.declared.clause.Clause.TheVariants.{L8, L11}
+use Rattle.trace_events.proofs.Captures.{opened, client, router, paired, told, rule, verdict_of}
 use Rattle.trace_duties.proofs.Captures.{diligence_of}
 use Rattle.trace_duties.proofs.Openings.{between, joined}
 use Rattle.trace_duties.proofs.WorkedFrames.{open_p, open_c, open_c_of_512, router_open, begin_100, router_begin, consumer_of_q, router_to_consumer_of_q, producer_of_news, router_to_producer_of_news, consumer_of_news, router_to_consumer_of_news, detach, router_flow_250, flow_100_0_10, flow_100_0_1, flow_100_0_1_behind_one, transfer_0, transfer_1, transfer_2, copy_0, copy_1, settled_copy_0, accept_0, accept_0_unsettled, failed_0, release_0, release_1, settle_0, first_half, second_half, first_cut, next_cut, last_cut}

@@ -2,7 +2,7 @@
 use Rattle.std.specs.Prelude.{◌≡◌, List, [], ◌∷◌, ◌++◌, true, Ok, refl}
 use Rattle.capture_form.specs.declared.records.Record.{Record}
 use Rattle.pairing_cert.specs.declared.note.Why.TheVariants.{C}
-use Rattle.trace_clauses.proofs.Captures.{opened, client, router, paired, told, lost, verdict_of}
+use Rattle.trace_events.proofs.Captures.{opened, client, router, paired, told, lost, verdict_of}
 use Rattle.trace_duties.proofs.Captures.{diligence_of}
 use Rattle.trace_duties.proofs.Openings.{joined}
 use Rattle.trace_duties.proofs.WorkedFrames.{open_p, open_c, open_a_of_511, router_open, close, close_invalid_field, begin_100, router_begin, producer_of_q, producer_of_q_with_unsettled, router_to_producer_of_q, consumer_of_q, router_to_consumer_of_q, consumer_of_any, router_to_consumer_of_dyn_12, router_flow_250, flow_100_0_1, transfer_0, copy_0, accept_0}

@@ -19,8 +19,8 @@ use Rattle.trace_events.specs.Said.{handle_in}
 use Rattle.trace_events.specs.Connection.{has_out_open, has_out_close}
 use Rattle.trace_events.specs.Link.{is_consumer}
 use Rattle.trace_events.specs.Credit.{delivery_count, link_credit, given_credit}
-use Rattle.trace_clauses.specs.Written.{says, written_open, written_close, written_begin, written_end, written_detach, written_session_flow, written_credit, written_count}
-use Rattle.trace_clauses.specs.LinkClause.{has_dynamic_source, is_without_address, asked_address}
+use Rattle.trace_events.specs.Written.{says, written_open, written_close, written_begin, written_end, written_detach, written_session_flow, written_credit, written_count}
+use Rattle.trace_events.specs.LinkClause.{has_dynamic_source, is_without_address, asked_address}
 
 -- `past` has the event that is answered at its head.
 

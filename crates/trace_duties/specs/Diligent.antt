@@ -19,9 +19,9 @@ use Rattle.trace_events.specs.Incoming.{address_of, incoming_deliveries, complet
 use Rattle.trace_events.specs.Outgoing as outgoing
 use Rattle.trace_events.specs.Outgoing.{outgoing_deliveries, noted, next_delivery_id}
 use Rattle.trace_events.specs.Waiting.{is_of_multicast, is_waiting}
-use Rattle.trace_clauses.specs.FlowClause.{may_be_topped_up, full_credit, may_be_drained, drained_count}
+use Rattle.trace_events.specs.FlowClause.{may_be_topped_up, full_credit, may_be_drained, drained_count}
 use Rattle.trace_duties.specs.Pick.{pick}
-use Rattle.trace_clauses.specs.Written.{spoken_octets, first_part, next_part, written_transfer, written_outcome, written_settling, written_credit, written_count, written_session_flow}
+use Rattle.trace_events.specs.Written.{spoken_octets, first_part, next_part, written_transfer, written_outcome, written_settling, written_credit, written_count, written_session_flow}
 use Rattle.trace_duties.specs.Answer.{answer}
 use Rattle.trace_duties.specs.Quiet.{is_quiet, lacks_window}
 use Rattle.trace_events.specs.History.{history}

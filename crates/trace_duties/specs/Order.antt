@@ -7,7 +7,7 @@ use Rattle.trace_events.specs.Link.{is_live, link_at}
 use Rattle.trace_events.specs.Credit.{begins_outgoing}
 use Rattle.trace_events.specs.Outgoing.{noted}
 use Rattle.trace_events.specs.Due.{is_unsent}
-use Rattle.trace_clauses.specs.TransferClause.{is_in_order}
+use Rattle.trace_events.specs.TransferClause.{is_in_order}
 use Rattle.trace_duties.specs.Quiet.{has_earlier_unsent}
 
 -- each copy that is due to a live link and unsent may go there by the order of completion: the delivery that the last one

@@ -8,7 +8,7 @@ use Rattle.trace_events.specs.Words.{is_some_and}
 use Rattle.trace_events.specs.Event.{Event, Link}
 use Rattle.trace_events.specs.Link.{link_at}
 use Rattle.trace_events.specs.Address.{consumers}
-use Rattle.trace_clauses.specs.TransferClause.{may_take}
+use Rattle.trace_events.specs.TransferClause.{may_take}
 use Rattle.trace_duties.specs.Consumers.{address_events}
 
 -- the consumers of the address that may be sent a delivery, in the order of attach

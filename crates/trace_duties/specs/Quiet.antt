@@ -15,8 +15,8 @@ use Rattle.trace_events.specs.Outgoing.{outgoing_deliveries, noted, next_deliver
 use Rattle.trace_events.specs.Waiting.{is_waiting}
 use Rattle.trace_events.specs.Due.{is_unsent}
 use Rattle.trace_events.specs.Settling.{is_to_settle}
-use Rattle.trace_clauses.specs.Outcome.{is_to_tell}
-use Rattle.trace_clauses.specs.FlowClause.{may_be_topped_up, may_be_drained}
+use Rattle.trace_events.specs.Outcome.{is_to_tell}
+use Rattle.trace_events.specs.FlowClause.{may_be_topped_up, may_be_drained}
 use Rattle.trace_duties.specs.Pick.{eligible}
 
 -- no delivery waits at an address with a link that may be sent it

@@ -1,6 +1,6 @@
 //! The duties of a router: that nothing which can go waits, that each input is answered first, and that nothing else is
-//! written; and in which order it writes what is due. Definitions that compute, in `specs/`, over the events of `trace_events` and the frames and rows of
-//! `trace_clauses`. `route_answers` and `route_dues` write what they ask for.
+//! written; and in which order it writes what is due. Definitions that compute, in `specs/`, over the events, frames and
+//! rows of `trace_events`. `route_answers` and `route_dues` write what they ask for.
 //!
 //! Reading order in `specs/`: `Consumers`, `Pick`, `Answer`, `Quiet`, `Diligent`, `Order`, `Turn`.
 //!
