@@ -6,11 +6,11 @@ use Rattle.pairing_cert.specs.declared.note.Why.TheVariants.{C, Z, S, L, N, M}
 use Rattle.trace_events.specs.Event.{Event, Incoming, Outgoing}
 use Rattle.trace_events.specs.Disposition.{terminal_state}
 use Rattle.trace_events.specs.Outgoing.{decision}
-use Rattle.trace_clauses.specs.Outcome.{paired_row}
+use Rattle.trace_events.specs.Outcome.{paired_row}
 use Rattle.trace_judge.specs.Told.{decided_view}
-use Rattle.trace_values.specs.View.{decision_view}
-use Rattle.trace_values.specs.declared.disposition.Decision.{Decision}
-use Rattle.trace_values.specs.declared.disposition.Decision.TheVariants as decisions
+use Rattle.trace_events.specs.View.{decision_view}
+use Rattle.trace_events.specs.declared.disposition.Decision.{Decision}
+use Rattle.trace_events.specs.declared.disposition.Decision.TheVariants as decisions
 
 same_some : {A : Type 0} (a b : A) → Some a ≡ Some b → a ≡ b
 same_some a b is = cc

@@ -9,10 +9,10 @@ use Rattle.trace_events.specs.Event.{Event, Incoming, Outgoing}
 use Rattle.trace_events.specs.Disposition.{terminal_state}
 use Rattle.trace_events.specs.Outgoing.{pairing, decision}
 use Rattle.trace_events.specs.Waiting.{is_gone, is_of_multicast}
-use Rattle.trace_clauses.specs.BestVerdict.{told_octets, whole_verdict, multicast_row}
-use Rattle.trace_clauses.specs.Outcome.{anycast_row, bare_octets, paired_row, reasons, row}
-use Rattle.trace_values.specs.View.{decision_view}
-use Rattle.trace_values.specs.declared.disposition.Decision.{Decision}
+use Rattle.trace_events.specs.BestVerdict.{told_octets, whole_verdict, multicast_row}
+use Rattle.trace_events.specs.Outcome.{anycast_row, bare_octets, paired_row, reasons, row}
+use Rattle.trace_events.specs.View.{decision_view}
+use Rattle.trace_events.specs.declared.disposition.Decision.{Decision}
 use Rattle.trace_judge.specs.Told.{asks_pairing, decided_view}
 use Rattle.trace_judge.proofs.DecidedRows.{row_decided}
 

@@ -8,7 +8,7 @@ use Rattle.amqp_frames.specs.declared.frame.FrameKind.{FrameKind}
 use Rattle.amqp_frames.specs.declared.frame.FrameKind.TheVariants as kinds
 use Rattle.amqp_frames.specs.Frame.{code_of}
 use Rattle.amqp_frames.specs.Writing.{frame_size, frame_octets}
-use Rattle.trace_clauses.specs.Written.{spoken_octets, written_outcome}
+use Rattle.trace_events.specs.Written.{spoken_octets, written_outcome}
 use Rattle.trace_judge.specs.OutcomeSize.{uint_size, list_size, state_size, outcome_frame_size}
 
 frame_long : (kind : FrameKind) (channel : ℕ) (body : List ℕ) → length (frame_octets kind channel body) ≡ frame_size body

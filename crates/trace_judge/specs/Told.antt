@@ -5,11 +5,11 @@ use Rattle.amqp_perf.specs.Meaning.{DispositionFields}
 use Rattle.amqp_perf.specs.Router.{delivery_failed}
 use Rattle.pairing_cert.specs.declared.note.Why.{Why}
 use Rattle.pairing_cert.specs.declared.note.Why.TheVariants.{C, Z, S, L, N, M}
-use Rattle.trace_values.specs.declared.disposition.Decision.{Decision}
+use Rattle.trace_events.specs.declared.disposition.Decision.{Decision}
 use Rattle.trace_judge.specs.declared.outcome.Told.{Told}
 use Rattle.trace_judge.specs.declared.outcome.Told.TheVariants as told
-use Rattle.trace_clauses.specs.Outcome.{bare_octets}
-use Rattle.trace_values.specs.View.{decision_view}
+use Rattle.trace_events.specs.Outcome.{bare_octets}
+use Rattle.trace_events.specs.View.{decision_view}
 
 -- a disposition that decides so, and says no more
 abbrev pub decided_view : Decision → DispositionFields

@@ -7,12 +7,12 @@ ghost use Rattle.trace_events.specs.Words.{is_some_and};
 ghost use Rattle.trace_events.specs.Said.{as_transfer, out_transfer};
 ghost use Rattle.trace_events.specs.Session.{StandsLive};
 ghost use Rattle.trace_events.specs.Link.{NamesLive};
-ghost use Rattle.trace_values.specs.Known.{CarriesKnown};
-ghost use Rattle.trace_values.specs.View.{event_view, spoken_view, frame_view, Events};
-ghost use Rattle.trace_clauses.specs.LinkClause.{answers_attach};
-ghost use Rattle.trace_clauses.specs.declared.clause.Clause.TheVariants as clauses;
-ghost use Rattle.trace_clauses.specs.Clauses as law;
-ghost use Rattle.trace_clauses.specs.TransferClause as transfers;
+ghost use Rattle.trace_events.specs.Known.{CarriesKnown};
+ghost use Rattle.trace_events.specs.View.{event_view, spoken_view, frame_view, Events};
+ghost use Rattle.trace_events.specs.LinkClause.{answers_attach};
+ghost use Rattle.trace_events.specs.declared.clause.Clause.TheVariants as clauses;
+ghost use Rattle.trace_events.specs.Clauses as law;
+ghost use Rattle.trace_events.specs.TransferClause as transfers;
 
 mod connection;
 mod disposition;
@@ -34,8 +34,7 @@ use crate::questions::{Carriage, Counts, Inputs, Openings, Outcomes, Questions};
 use amqp_perf::{Attach, Disposition, Performative, Role, Transfer};
 use capture_form::RuleSet;
 use pairing_cert::Note;
-use trace_clauses::Clause;
-use trace_values::{Event, Frame, Moment, Spoken};
+use trace_events::{Clause, Event, Frame, Moment, Spoken};
 
 /// L14: no note.
 fn has_no_note(note: Note) -> bool

@@ -5,8 +5,8 @@ ghost use Rattle.std.specs.Prelude.{List, IfSome, ◌≡◌, option_map, length}
 ghost use Rattle.trace_events.specs.History.{session_of, named_link, link_of};
 ghost use Rattle.trace_events.specs.Session.{IsLiveOn, StandsLive};
 ghost use Rattle.trace_events.specs.Link.{NamesLive};
-ghost use Rattle.trace_values.specs.Known.{OpensKnown};
-ghost use Rattle.trace_values.specs.View.{spoken_view, moment_view, link_view, event_view, incoming_view, outgoing_view, Events};
+ghost use Rattle.trace_events.specs.Known.{OpensKnown};
+ghost use Rattle.trace_events.specs.View.{spoken_view, moment_view, link_view, event_view, incoming_view, outgoing_view, Events};
 ghost use Rattle.amqp_perf.specs.View.{disposition_fields};
 ghost use Rattle.trace_events.specs.History as law;
 
@@ -19,9 +19,9 @@ use crate::questions::{Carriage, Inputs, Openings, Outcomes};
 use amqp_perf::{Disposition, Performative, Role};
 use capture_form::RuleSet;
 use pairing_cert::Note;
-use trace_events::{Fault, Session};
-use trace_values::{
-    Event, Incoming, Link, Moment, Outgoing, ReadRecord, Spoken, handle_in, opens_link,
+use trace_events::{
+    Event, Fault, Incoming, Link, Moment, Outgoing, ReadRecord, Session, Spoken, handle_in,
+    opens_link,
 };
 
 // Where a frame stands.

@@ -10,7 +10,7 @@
 //! - `outcome`: the row of an outcome, and what is told.
 //!
 //! In `specs/`, `OutcomeSize` says how long the frame of an outcome is, and `Told` what is decided and told, as the code has it.
-//! The law itself stands in `trace_events` and `trace_clauses`, and `docs/LAW.md` says it in words.
+//! The law itself stands in `trace_events`, and `docs/LAW.md` says it in words.
 #![tactic(auto)]
 
 mod clauses;

@@ -4,22 +4,22 @@
 ghost use Rattle.capture_form.specs.Rules.{RuleSet};
 ghost use Rattle.std.specs.Prelude.{List, ◌≡◌, ◌≤◌, ◌^◌, true, false, None, Some, IfSome, is_some, option_map};
 ghost use Rattle.std.specs.List.{list_any};
-ghost use Rattle.trace_clauses.specs.Outcome.{outcome_octets, bare_outcome};
+ghost use Rattle.trace_events.specs.Outcome.{outcome_octets, bare_outcome};
 ghost use Rattle.std.specs.Option.{option_copied};
 ghost use Rattle.trace_events.specs.Event as law_events;
 ghost use Rattle.trace_events.specs.Outgoing.{pairing};
 ghost use Rattle.trace_events.specs.Waiting as waiting;
 ghost use Rattle.trace_judge.specs.Told.{asks_pairing, decided_view, told_view};
-ghost use Rattle.trace_values.specs.View.{incoming_view, outgoing_view, Events};
+ghost use Rattle.trace_events.specs.View.{incoming_view, outgoing_view, Events};
 ghost use Rattle.trace_judge.specs.OutcomeSize as law;
-ghost use Rattle.trace_clauses.specs.BestVerdict as verdicts;
-ghost use Rattle.trace_clauses.specs.Outcome as rows;
+ghost use Rattle.trace_events.specs.BestVerdict as verdicts;
+ghost use Rattle.trace_events.specs.Outcome as rows;
 
 use crate::questions::Outcomes;
 use amqp_perf::{Outcome, State};
 use capture_form::RuleSet;
 use pairing_cert::Why;
-use trace_values::{Decision, Incoming, Outgoing};
+use trace_events::{Decision, Incoming, Outgoing};
 
 /// The state that is told of a delivery.
 #[derive(Clone, Copy)]

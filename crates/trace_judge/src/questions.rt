@@ -28,7 +28,7 @@ pub trait History {
     ghost use Rattle.capture_form.specs.Rules.{RuleSet};
     ghost use Rattle.trace_events.specs.Event.{Incoming, Outgoing};
     ghost use Rattle.trace_events.specs.declared.session.Session.{Session};
-    ghost use Rattle.trace_values.specs.View.{Events};
+    ghost use Rattle.trace_events.specs.View.{Events};
 
     /// These are the events, judged by these rules of addresses.
     ghost stands_for: { Self → RuleSet → Events → Type 0 };

@@ -2,12 +2,12 @@
 
 ghost use Rattle.capture_form.specs.Rules.{RuleSet};
 ghost use Rattle.std.specs.Prelude.{List, ◌≡◌};
-ghost use Rattle.trace_values.specs.View.{spoken_view, frame_view, Events};
-ghost use Rattle.trace_clauses.specs.ConnectionClause as law;
+ghost use Rattle.trace_events.specs.View.{spoken_view, frame_view, Events};
+ghost use Rattle.trace_events.specs.ConnectionClause as law;
 
 use crate::questions::{Openings, Outcomes};
 use amqp_perf::Performative;
-use trace_values::{Frame, Spoken, is_of_connection};
+use trace_events::{Frame, Spoken, is_of_connection};
 
 /// The first frame that is written is an open, and no other is (part 2 of the standard, section 2.4.1).
 fn is_open_in_place<'a, P: Openings<'a>>(past: &P, connection: u32, spoken: &Spoken) -> bool

@@ -2,15 +2,15 @@
 
 ghost use Rattle.std.specs.Prelude.{◌≡◌, IfSome, option_map};
 ghost use Rattle.amqp_perf.specs.View.{disposition_fields};
-ghost use Rattle.trace_values.specs.View.{event_view, incoming_view, Events};
-ghost use Rattle.trace_clauses.specs.DispositionClause as law;
+ghost use Rattle.trace_events.specs.View.{event_view, incoming_view, Events};
+ghost use Rattle.trace_events.specs.DispositionClause as law;
 
 use crate::outcome::{may_be_told, row};
 use crate::questions::Outcomes;
 use amqp_perf::Disposition;
 use capture_form::RuleSet;
 use pairing_cert::Note;
-use trace_values::{Event, Incoming};
+use trace_events::{Event, Incoming};
 
 /// Settled, and of one id.
 pub(crate) fn settles_one(disposition: &Disposition) -> bool

@@ -4,15 +4,14 @@ ghost use Rattle.capture_form.specs.Rules.{RuleSet};
 ghost use Rattle.std.specs.Prelude.{List, ◌≡◌};
 ghost use Rattle.trace_events.specs.Session.{IsLiveOn, StandsLive};
 ghost use Rattle.trace_events.specs.Link.{IsLiveLink, NamesLive};
-ghost use Rattle.trace_values.specs.View.{event_view, link_view, Events};
-ghost use Rattle.trace_clauses.specs.FlowClause as law;
+ghost use Rattle.trace_events.specs.View.{event_view, link_view, Events};
+ghost use Rattle.trace_events.specs.FlowClause as law;
 
 use crate::questions::{Counts, Inputs};
 use amqp_perf::Flow;
 use capture_form::RuleSet;
 use flow_counts::{CAPACITY, INCOMING_WINDOW, LOW_MARK, OUTGOING_WINDOW};
-use trace_events::Session;
-use trace_values::{Event, Link, has_multicast};
+use trace_events::{Event, Link, Session, has_multicast};
 
 /// The flow has the session's ids and windows.
 fn has_session_numbers<P: Counts>(past: &P, flow: &Flow, session: Session) -> bool

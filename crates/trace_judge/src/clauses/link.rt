@@ -4,13 +4,12 @@ ghost use Rattle.capture_form.specs.Rules.{RuleSet};
 ghost use Rattle.std.specs.Prelude.{List, ◌≡◌};
 ghost use Rattle.amqp_perf.specs.View.{attach_fields, detach_fields};
 ghost use Rattle.trace_events.specs.Session.{IsLiveOn, StandsLive};
-ghost use Rattle.trace_values.specs.View.{event_view, Events};
-ghost use Rattle.trace_clauses.specs.LinkClause as law;
+ghost use Rattle.trace_events.specs.View.{event_view, Events};
+ghost use Rattle.trace_events.specs.LinkClause as law;
 
 use crate::questions::Openings;
 use amqp_perf::{Attach, Detach};
-use trace_events::Session;
-use trace_values::Event;
+use trace_events::{Event, Session};
 
 /// L3: it answers the client's last attach of the handle.
 pub(crate) fn answers_attach<'a, P: Openings<'a>>(past: &P, ours: &Attach, session: Session) -> bool

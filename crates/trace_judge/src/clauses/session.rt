@@ -2,13 +2,13 @@
 
 ghost use Rattle.capture_form.specs.Rules.{RuleSet};
 ghost use Rattle.std.specs.Prelude.{List, ◌≡◌};
-ghost use Rattle.trace_values.specs.View.{event_view, Events};
-ghost use Rattle.trace_clauses.specs.SessionClause as law;
+ghost use Rattle.trace_events.specs.View.{event_view, Events};
+ghost use Rattle.trace_events.specs.SessionClause as law;
 
 use crate::questions::Openings;
 use amqp_perf::Begin;
 use flow_counts::INCOMING_WINDOW;
-use trace_values::Event;
+use trace_events::Event;
 
 /// L2: the client's begin asks for it.
 pub(crate) fn answers_begin<'a, P: Openings<'a>>(

@@ -6,15 +6,15 @@ ghost use Rattle.trace_events.specs.Credit.{begins_outgoing};
 ghost use Rattle.amqp_perf.specs.View.{transfer_fields};
 ghost use Rattle.trace_events.specs.Session.{StandsLive};
 ghost use Rattle.trace_events.specs.Link.{IsLiveLink, is_consumer};
-ghost use Rattle.trace_values.specs.View.{event_view, incoming_view, link_view, outgoing_view, Events};
-ghost use Rattle.trace_clauses.specs.TransferClause as law;
+ghost use Rattle.trace_events.specs.View.{event_view, incoming_view, link_view, outgoing_view, Events};
+ghost use Rattle.trace_events.specs.TransferClause as law;
 ghost use Rattle.trace_events.specs.Words.{is_some_and};
 
 use crate::questions::{Carriage, Counts, Outcomes};
 use amqp_perf::Transfer;
 use capture_form::RuleSet;
 use pairing_cert::Note;
-use trace_values::{Event, Incoming, Link, Outgoing};
+use trace_events::{Event, Incoming, Link, Outgoing};
 
 /// They name the same delivery or the same reason, or are both none.
 fn is_same_note(note: Note, other: Note) -> bool

@@ -10,7 +10,7 @@ ghost use Rattle.amqp_perf.specs.NestedViews.{address_view, terminus_view, targe
 ghost use Rattle.amqp_perf.specs.View.{open_fields, attach_fields, transfer_fields, view};
 ghost use Rattle.trace_events.specs.Session.{IsLiveOn, StandsLive};
 ghost use Rattle.trace_events.specs.Link.{IsLiveLink, NamesLive};
-ghost use Rattle.trace_values.specs.View.{event_view, incoming_view, link_view, spoken_view, body_view, Events};
+ghost use Rattle.trace_events.specs.View.{event_view, incoming_view, link_view, spoken_view, body_view, Events};
 ghost use Rattle.trace_events.specs.Incoming.{in_progress};
 ghost use Rattle.trace_events.specs.Fault as law;
 
@@ -23,8 +23,7 @@ use flow_counts::{
     CHANNEL_MAX, HANDLE_MAX, MAX_ADDRESS, MAX_DELIVERY_TAG, MAX_LINK_NAME, MAX_MESSAGE_SIZE,
     MIN_MAX_FRAME_SIZE,
 };
-use trace_events::{Fault, Session};
-use trace_values::{Body, Event, Incoming, Link, Spoken};
+use trace_events::{Body, Event, Fault, Incoming, Link, Session, Spoken};
 
 /// An address that isn't dynamic is a text of 1 to 160 octets.
 fn address_fault(address: &Address) -> Option<Fault>

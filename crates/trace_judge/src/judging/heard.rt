@@ -4,12 +4,12 @@ ghost use Rattle.capture_form.specs.Rules.{RuleSet};
 ghost use Rattle.std.specs.Prelude.{List, ◌≡◌};
 ghost use Rattle.amqp_perf.specs.View.{view};
 ghost use Rattle.trace_events.specs.Session.{StandsLive};
-ghost use Rattle.trace_values.specs.View.{event_view, body_view, Events};
+ghost use Rattle.trace_events.specs.View.{event_view, body_view, Events};
 ghost use Rattle.trace_events.specs.Heard as law;
 
 use crate::questions::Inputs;
 use amqp_perf::Performative;
-use trace_values::{Body, Event, handle_in, is_of_connection};
+use trace_events::{Body, Event, handle_in, is_of_connection};
 
 /// It stands on a handle that awaits the client's detach.
 fn is_on_detached<'a, P: Inputs<'a>>(past: &P, event: &Event, performative: &Performative) -> bool

@@ -3,7 +3,7 @@
 use crate::questions::History;
 use capture_form::RuleSet;
 use pairing_cert::Note;
-use trace_values::{Incoming, Link, Outgoing};
+use trace_events::{Incoming, Link, Outgoing};
 
 /// What is asked of the past when a transfer carries an incoming delivery to a consumer.
 ///
@@ -14,10 +14,10 @@ pub trait Carriage<'a>: History {
     ghost use Rattle.trace_events.specs.Due as due;
     ghost use Rattle.trace_events.specs.Incoming as received;
     ghost use Rattle.trace_events.specs.Outgoing as sent;
-    ghost use Rattle.trace_clauses.specs.TransferClause as transfers;
+    ghost use Rattle.trace_events.specs.TransferClause as transfers;
     ghost use Rattle.trace_events.specs.Link.{IsLiveLink, is_consumer};
-    ghost use Rattle.trace_values.specs.Known.{IsCarriedBy};
-    ghost use Rattle.trace_values.specs.View.{Events, incoming_view, link_view, outgoing_view};
+    ghost use Rattle.trace_events.specs.Known.{IsCarriedBy};
+    ghost use Rattle.trace_events.specs.View.{Events, incoming_view, link_view, outgoing_view};
 
     /// The delivery of a consumer's link whose last part isn't written yet.
     fn outgoing_in_progress(&self, link: &Link) -> Option<Outgoing<'a>>

@@ -2,8 +2,7 @@
 
 use crate::questions::History;
 use capture_form::RuleSet;
-use trace_events::Session;
-use trace_values::Link;
+use trace_events::{Link, Session};
 
 /// What is asked of the past when a transfer begins or a flow is written: windows, credits, and what waits.
 ///
@@ -19,7 +18,7 @@ pub trait Counts: History {
     ghost use Rattle.trace_events.specs.Window as windows;
     ghost use Rattle.trace_events.specs.Session.{IsLiveOn};
     ghost use Rattle.trace_events.specs.Link.{IsLiveLink};
-    ghost use Rattle.trace_values.specs.View.{Events, link_view};
+    ghost use Rattle.trace_events.specs.View.{Events, link_view};
 
     /// How many transfers may still be sent on the session.
     fn session_window(&self, session: Session) -> u32

@@ -3,8 +3,7 @@
 
 use crate::questions::History;
 use capture_form::RuleSet;
-use trace_events::Session;
-use trace_values::{Incoming, Link};
+use trace_events::{Incoming, Link, Session};
 
 /// What is asked of the past when a client's frame is judged: whether it is heard, which fault it has, and the delivery that
 /// it begins or goes on with.
@@ -22,7 +21,7 @@ pub trait Inputs<'a>: History {
     ghost use Rattle.trace_events.specs.Window as windows;
     ghost use Rattle.trace_events.specs.Session.{IsLiveOn};
     ghost use Rattle.trace_events.specs.Link.{IsLiveLink};
-    ghost use Rattle.trace_values.specs.View.{Events, incoming_view, link_view};
+    ghost use Rattle.trace_events.specs.View.{Events, incoming_view, link_view};
 
     /// The connection is lost or broken, or a close in either direction stands.
     fn is_over(&self, connection: u32) -> bool

@@ -2,8 +2,7 @@
 
 use crate::questions::History;
 use amqp_perf::Begin;
-use trace_events::Session;
-use trace_values::Asking;
+use trace_events::{Asking, Session};
 
 /// What is asked of the past when the router opens a connection, a session or a link, or ends one.
 ///
@@ -11,13 +10,13 @@ use trace_values::Asking;
 pub trait Openings<'a>: History {
     ghost use Rattle.capture_form.specs.Rules.{RuleSet};
     ghost use Rattle.std.specs.Prelude.{List, ◌≡◌, option_map};
-    ghost use Rattle.trace_clauses.specs.LinkClause as attaches;
+    ghost use Rattle.trace_events.specs.LinkClause as attaches;
     ghost use Rattle.trace_events.specs.Connection as connections;
     ghost use Rattle.trace_events.specs.Link as links;
     ghost use Rattle.trace_events.specs.Session as sessions;
     ghost use Rattle.trace_events.specs.Session.{IsLiveOn};
-    ghost use Rattle.trace_values.specs.Answering.{their_first_count};
-    ghost use Rattle.trace_values.specs.View.{Events, asking_view};
+    ghost use Rattle.trace_events.specs.Answering.{their_first_count};
+    ghost use Rattle.trace_events.specs.View.{Events, asking_view};
 
     /// The connection was opened.
     fn was_opened(&self, connection: u32) -> bool

@@ -3,8 +3,7 @@
 use crate::questions::History;
 use amqp_perf::Outcome;
 use capture_form::RuleSet;
-use trace_events::Session;
-use trace_values::{Decision, Incoming, Link, Outgoing};
+use trace_events::{Decision, Incoming, Link, Outgoing, Session};
 
 /// What is asked of the past when an outcome is told or a delivery is settled.
 ///
@@ -18,10 +17,10 @@ pub trait Outcomes<'a>: History {
     ghost use Rattle.trace_events.specs.Outgoing as sent;
     ghost use Rattle.trace_events.specs.Settling as settling;
     ghost use Rattle.trace_events.specs.Waiting as waiting;
-    ghost use Rattle.trace_clauses.specs.BestVerdict as verdicts;
+    ghost use Rattle.trace_events.specs.BestVerdict as verdicts;
     ghost use Rattle.trace_events.specs.Disposition.{terminal_state};
     ghost use Rattle.trace_events.specs.Session.{IsLiveOn};
-    ghost use Rattle.trace_values.specs.View.{Events, decision_view, incoming_view, link_view, outgoing_view};
+    ghost use Rattle.trace_events.specs.View.{Events, decision_view, incoming_view, link_view, outgoing_view};
 
     /// The undecided delivery of the id on the session, whose outcome may be told.
     fn to_tell(&self, rules: &RuleSet, session: Session, id: u32) -> Option<Incoming<'a>>

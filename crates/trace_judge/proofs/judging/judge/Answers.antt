@@ -3,7 +3,7 @@ use Rattle.trace_events.specs.Event.{Event}
 use Rattle.trace_events.specs.Session.{StandsLive}
 use Rattle.trace_events.specs.History as law
 use Rattle.trace_events.proofs.Standing.{placed-stands}
-use Rattle.trace_values.specs.Known.{OpensKnown}
+use Rattle.trace_events.specs.Known.{OpensKnown}
 use Rattle.trace_judge.proofs.judging.judge.Goals as goal
 
 pub returns : goal.returns

@@ -4,8 +4,8 @@ use Rattle.trace_events.specs.Session.{StandsLive}
 use Rattle.trace_events.specs.Link.{NamesLive}
 use Rattle.trace_events.specs.History as law
 use Rattle.trace_events.proofs.Standing.{placed-stands}
-use Rattle.trace_clauses.proofs.LiveLinks.{placed-names}
-use Rattle.trace_values.specs.View.{moment_view}
+use Rattle.trace_events.proofs.LiveLinks.{placed-names}
+use Rattle.trace_events.specs.View.{moment_view}
 use Rattle.trace_judge.proofs.judging.judge_unopened.Goals as goal
 
 -- each step gives what its definition gives of the step before it, and leaves session and link as they were placed

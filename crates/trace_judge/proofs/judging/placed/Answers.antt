@@ -3,7 +3,7 @@ use Rattle.trace_events.specs.declared.session.Session.{Session}
 use Rattle.trace_events.specs.Session.{IsLiveOn}
 use Rattle.trace_events.specs.History.{link_of}
 use Rattle.trace_events.proofs.Standing.{placed-stands}
-use Rattle.trace_values.specs.View.{moment_view}
+use Rattle.trace_events.specs.View.{moment_view}
 use Rattle.trace_judge.proofs.judging.placed.Goals as goal
 
 pub returns : goal.returns

@@ -1,5 +1,5 @@
 use Rattle.std.proofs.Common.{◌∙◌, Option, Some, None, IfSome}
-use Rattle.trace_values.specs.View.{incoming_view, outgoing_view}
+use Rattle.trace_events.specs.View.{incoming_view, outgoing_view}
 use Rattle.trace_judge.proofs.FirstRows.{carried-row}
 use Rattle.trace_judge.proofs.outcome.first_paired_row.Goals as goal
 

@@ -1,5 +1,5 @@
 use Rattle.std.proofs.Common.{refl, sym, ◌∙◌}
-use Rattle.trace_values.specs.View.{incoming_view}
+use Rattle.trace_events.specs.View.{incoming_view}
 use Rattle.trace_judge.proofs.FirstRows.{none-applies, anycast-untold, whole-untold}
 use Rattle.trace_judge.proofs.outcome.first_row.Goals as goal
 
