@@ -6,7 +6,7 @@ use Rattle.capture_form.specs.declared.records.Record.{Record}
 use Rattle.capture_form.specs.Rules.{RuleSet}
 use Rattle.trace_events.specs.Event.{Event}
 use Rattle.trace_events.specs.History.{judge, continued}
-use Rattle.trace_clauses.specs.Clauses.{broken_clause}
+use Rattle.trace_events.specs.Clauses.{broken_clause}
 use Rattle.trace_law.specs.Check.{broken_by_first}
 
 module _ (rules : RuleSet) (past : List Event) (records : List Record) (from end : ℕ) (r : Record) (e : Event) (same : r ≡ get_or records from r) (judged : e ≡ judge rules past r) where

@@ -2,7 +2,7 @@
 use Rattle.std.proofs.Common.{Option, Some, None, IfSome}
 use Rattle.trace_events.specs.Said.{out_spoken, out_begin, out_attach}
 use Rattle.trace_events.specs.Event.{Event}
-use Rattle.trace_values.specs.Known.{OpensKnown, CarriesKnown}
+use Rattle.trace_events.specs.Known.{OpensKnown, CarriesKnown}
 
 each : {A : Type 0} (o : Option A) → IfSome o (λ x. Unit {0})
 each None = tt

@@ -10,7 +10,7 @@ use Rattle.flow_counts.specs.declared.profile.TheConstants.{MAX_MESSAGE_SIZE}
 use Rattle.trace_events.specs.Event.{Event, Incoming}
 use Rattle.trace_events.specs.Said.{in_spoken}
 use Rattle.trace_events.specs.Incoming.{is_part, part_payload, payload, completes, message, message_address}
-use Rattle.trace_clauses.proofs.JoinedParts.{append-nothing, fills_up, take-of-none, take-all}
+use Rattle.trace_events.proofs.JoinedParts.{append-nothing, fills_up, take-of-none, take-all}
 use Rattle.trace_law.specs.Messages.{joined}
 
 -- ---- joined up to a bound

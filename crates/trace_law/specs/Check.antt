@@ -4,7 +4,7 @@ use Rattle.amqp_perf.specs.declared.descriptor.Outcome.{Outcome}
 use Rattle.capture_form.specs.declared.records.Record.{Record}
 use Rattle.capture_form.specs.Rules.{RuleSet}
 use Rattle.capture_form.specs.Text.{Trace}
-use Rattle.trace_clauses.specs.declared.clause.Clause.{Clause}
+use Rattle.trace_events.specs.declared.clause.Clause.{Clause}
 use Rattle.trace_events.specs.Words.{is_some_and, where_passes}
 use Rattle.trace_events.specs.Event.{Event, Incoming}
 use Rattle.trace_events.specs.Session.{live_session}
@@ -14,8 +14,8 @@ use Rattle.trace_events.specs.Credit.{link_credit}
 use Rattle.trace_events.specs.Incoming.{incoming_at, is_complete}
 use Rattle.trace_events.specs.Waiting.{is_of_multicast, is_waiting}
 use Rattle.trace_events.specs.History.{judge, history}
-use Rattle.trace_clauses.specs.Clauses.{broken_clause}
-use Rattle.trace_clauses.specs.BestVerdict.{whole_verdict}
+use Rattle.trace_events.specs.Clauses.{broken_clause}
+use Rattle.trace_events.specs.BestVerdict.{whole_verdict}
 
 -- the events of the records below this number
 abbrev pub events_below : ℕ → Trace → List Event

@@ -1,4 +1,4 @@
-//! The plain checker of the law: whether a record that the router has written meets the clauses of `trace_clauses`, by
+//! The plain checker of the law: whether a record that the router has written meets the clauses of `trace_events`, by
 //! the records before it. It takes no memory of the heap: the events of `trace_events` stand on the stack, one call for
 //! each, the newest first, and each definition is computed anew by the function of the same name, whose contract it is.
 //!
@@ -9,8 +9,7 @@
 //!   `tally_capture` (`tally`) what a capture holds, in one walk over the records (`walk`).
 //!
 //! In `specs/`, `Check` is what is asked at one record, `OnStack` and `Payloads` say what the code's values stand for. What an
-//! event is stands in `trace_values`, how it is judged in `trace_judge`; the law itself in `trace_events` and
-//! `trace_clauses`, and `docs/LAW.md` says it in words.
+//! event is, and the law itself, stands in `trace_events`, how it is judged in `trace_judge`; `docs/LAW.md` says it in words.
 #![tactic(auto)]
 
 mod ask;
@@ -22,4 +21,4 @@ mod session;
 
 pub use ask::check::{best_verdict_at, credit_at, slow_check, waiting_at, window_at};
 pub use ask::tally::tally_capture;
-pub use trace_clauses::{Clause, Tally};
+pub use trace_events::{Clause, Tally};

@@ -4,16 +4,15 @@ mod address;
 mod credit;
 
 use crate::past::Past;
-use trace_events::Session;
-use trace_values::{Asking, Event, Link, opens_link, their_first_count};
+use trace_events::{Asking, Event, Link, Session, opens_link, their_first_count};
 
 impl<'p, 'a> Past<'p, 'a> {
     ghost use Rattle.std.specs.Prelude.{◌≡◌, option_map};
     ghost use Rattle.trace_events.specs.Link as law;
-    ghost use Rattle.trace_clauses.specs.LinkClause.{asking};
+    ghost use Rattle.trace_events.specs.LinkClause.{asking};
     ghost use Rattle.trace_events.specs.Link.{unanswered_attach, owes_detach};
     ghost use Rattle.trace_law.specs.OnStack.{events};
-    ghost use Rattle.trace_values.specs.View.{asking_view, link_view, event_view};
+    ghost use Rattle.trace_events.specs.View.{asking_view, link_view, event_view};
 
     /// The client's last attach of the handle on the session that was heard.
     pub(crate) fn last_in_attach(&self, session: Session, handle: u32) -> Option<Event<'a, 'p, 'a>>

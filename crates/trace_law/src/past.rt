@@ -1,6 +1,6 @@
 //! The events before a record.
 
-use trace_values::Event;
+use trace_events::Event;
 
 /// The events before a record, the newest first. Each stands in a call of its own, so none takes memory of the heap.
 #[derive(Clone, Copy)]

@@ -4,14 +4,13 @@ use crate::past::Past;
 use amqp_perf::{Begin, Outcome};
 use capture_form::{Record, RuleSet};
 use pairing_cert::Note;
-use trace_clauses::Clause;
-use trace_events::Session;
+use trace_events::{
+    Asking, Clause, Decision, Event, Incoming, Link, Outgoing, ReadRecord, Session,
+    their_first_count,
+};
 use trace_judge::{
     Carriage, Counts, History, Inputs, Openings, Outcomes, Questions, broken_clause, judge,
     judge_unopened,
-};
-use trace_values::{
-    Asking, Decision, Event, Incoming, Link, Outgoing, ReadRecord, their_first_count,
 };
 
 impl<'p, 'a> History for Past<'p, 'a> {
@@ -274,10 +273,10 @@ impl<'p, 'a> Carriage<'a> for Past<'p, 'a> {
 /// A record, judged by the events on the stack.
 impl<'p, 'a> Past<'p, 'a> {
     ghost use Rattle.std.specs.Prelude.{◌≡◌, length};
-    ghost use Rattle.trace_clauses.specs.Clauses.{broken_clause};
+    ghost use Rattle.trace_events.specs.Clauses.{broken_clause};
     ghost use Rattle.trace_events.specs.History.{judge};
     ghost use Rattle.trace_law.specs.OnStack.{events};
-    ghost use Rattle.trace_values.specs.View.{event_view};
+    ghost use Rattle.trace_events.specs.View.{event_view};
 
     /// The record of this number in its place.
     #[tactic(auto, using(crate::proofs::KnownAll::opens_all))]

@@ -8,7 +8,7 @@ use crate::ask::walk::{Asked, walk};
 use crate::past::Past;
 use amqp_perf::Outcome;
 use capture_form::{Capture, Record, RuleSet};
-use trace_clauses::Clause;
+use trace_events::Clause;
 
 /// How many transfers may still be sent on the live session of a channel.
 #[derive(Clone, Copy)]

@@ -1,18 +1,18 @@
 //! What a capture holds, counted.
 
 ghost use Rattle.std.specs.Prelude.{◌≡◌};
-ghost use Rattle.trace_clauses.specs.Verdict.{tally_of};
+ghost use Rattle.trace_events.specs.Verdict.{tally_of};
 ghost use Rattle.trace_events.specs.History.{history};
 
 use crate::ask::walk::{Asked, walk};
 use crate::past::Past;
 use capture_form::{Capture, Record, RuleSet};
-use trace_clauses::Tally;
+use trace_events::Tally;
 
 impl<'p, 'a> Past<'p, 'a> {
     ghost use Rattle.std.specs.Prelude.{◌≡◌, ◌<◌, ◌^◌, length, count_by};
     ghost use Rattle.trace_events.specs.Credit.{begins_outgoing};
-    ghost use Rattle.trace_clauses.specs.Verdict.{tells_outcome, tally_of};
+    ghost use Rattle.trace_events.specs.Verdict.{tells_outcome, tally_of};
     ghost use Rattle.trace_law.specs.OnStack.{events};
 
     /// How many deliveries to clients have begun.
@@ -66,7 +66,7 @@ struct Tallied;
 
 impl Asked for Tallied {
     ghost use Rattle.std.specs.Prelude.{◌≡◌};
-    ghost use Rattle.trace_clauses.specs.Verdict.{tally_of};
+    ghost use Rattle.trace_events.specs.Verdict.{tally_of};
 
     type Answer = Tally;
 

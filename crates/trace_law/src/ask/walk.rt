@@ -8,7 +8,7 @@ ghost use Rattle.trace_law.specs.OnStack.{events};
 
 use crate::past::Past;
 use capture_form::{Record, RuleSet};
-use trace_values::ReadRecord;
+use trace_events::ReadRecord;
 
 /// What is asked of the events of a capture's first records.
 pub(crate) trait Asked {
@@ -16,7 +16,7 @@ pub(crate) trait Asked {
     ghost use Rattle.capture_form.specs.declared.records.Record.{Record};
     ghost use Rattle.capture_form.specs.Rules.{RuleSet};
     ghost use Rattle.trace_law.specs.OnStack.{events};
-    ghost use Rattle.trace_values.specs.View.{Events};
+    ghost use Rattle.trace_events.specs.View.{Events};
 
     type Answer;
 

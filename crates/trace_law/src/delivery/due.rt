@@ -2,14 +2,14 @@
 
 use crate::past::Past;
 use capture_form::RuleSet;
-use trace_values::{Incoming, Link, has_multicast};
+use trace_events::{Incoming, Link, has_multicast};
 
 impl<'p, 'a> Past<'p, 'a> {
     ghost use Rattle.std.specs.Prelude.{◌≡◌, ◌<◌, ◌^◌, length};
     ghost use Rattle.trace_events.specs.Due as law;
     ghost use Rattle.trace_law.specs.Copied.{copied_at, due_at};
     ghost use Rattle.trace_law.specs.OnStack.{events};
-    ghost use Rattle.trace_values.specs.View.{link_view, incoming_view};
+    ghost use Rattle.trace_events.specs.View.{link_view, incoming_view};
 
     /// The multicast delivery that the last event completes is for the link: one of a consumer of its address, live before it.
     fn is_copied_to(&self, rules: &RuleSet, link: &Link) -> bool

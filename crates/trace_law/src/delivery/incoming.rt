@@ -2,13 +2,13 @@
 //! 2.6.12 and 2.6.14).
 
 use crate::past::Past;
-use trace_values::{Incoming, Link, goes_on};
+use trace_events::{Incoming, Link, goes_on};
 
 impl<'p, 'a> Past<'p, 'a> {
     ghost use Rattle.std.specs.Prelude.{◌≡◌, option_map};
     ghost use Rattle.trace_events.specs.Incoming as law;
     ghost use Rattle.trace_law.specs.OnStack.{events};
-    ghost use Rattle.trace_values.specs.View.{link_view, incoming_view};
+    ghost use Rattle.trace_events.specs.View.{link_view, incoming_view};
 
     /// The delivery of the link whose last part hasn't come yet.
     pub(crate) fn incoming_in_progress(&self, link: &Link) -> Option<Incoming<'a>>

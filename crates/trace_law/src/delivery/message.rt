@@ -8,7 +8,7 @@ use crate::past::Past;
 use amqp_cuts::{Address, Cuts, message_to};
 use capture_form::RuleSet;
 use flow_counts::MAX_MESSAGE_SIZE;
-use trace_values::{Incoming, has_multicast};
+use trace_events::{Incoming, has_multicast};
 
 /// The message of the delivery that began in a record, as far as its parts stand on the stack; a message has no more octets than
 /// it may have.
@@ -65,7 +65,7 @@ impl<'p, 'a> Past<'p, 'a> {
     ghost use Rattle.trace_events.specs.Waiting as waiting;
     ghost use Rattle.trace_law.specs.Messages.{addressed_octets, found_octets, joined};
     ghost use Rattle.trace_law.specs.OnStack.{events};
-    ghost use Rattle.trace_values.specs.View.{incoming_view};
+    ghost use Rattle.trace_events.specs.View.{incoming_view};
 
     /// How many octets the message of the delivery of this number has.
     #[tactic(auto, using(crate::proofs::Messages::joined_length))]

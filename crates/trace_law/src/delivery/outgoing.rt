@@ -4,8 +4,7 @@
 use crate::past::Past;
 use amqp_perf::Disposition;
 use pairing_cert::Note;
-use trace_events::Session;
-use trace_values::{Decision, Event, Incoming, Link, Outgoing, is_decisive, names};
+use trace_events::{Decision, Event, Incoming, Link, Outgoing, Session, is_decisive, names};
 
 impl<'p, 'a> Past<'p, 'a> {
     ghost use Rattle.std.specs.Prelude.{◌≡◌, ◌&&◌, option_map};
@@ -16,7 +15,7 @@ impl<'p, 'a> Past<'p, 'a> {
     ghost use Rattle.trace_events.specs.Outgoing as law;
     ghost use Rattle.trace_events.specs.Disposition.{terminal_state};
     ghost use Rattle.trace_law.specs.OnStack.{events};
-    ghost use Rattle.trace_values.specs.View.{decision_view, link_view, incoming_view, outgoing_view, event_view};
+    ghost use Rattle.trace_events.specs.View.{decision_view, link_view, incoming_view, outgoing_view, event_view};
 
     /// The delivery of the link whose last part isn't written yet.
     pub(crate) fn outgoing_in_progress(&self, link: &Link) -> Option<Outgoing<'a>>
@@ -204,9 +203,9 @@ impl<'p, 'a> Past<'p, 'a> {
 impl<'p, 'a> Past<'p, 'a> {
     ghost use Rattle.std.specs.Prelude.{◌≡◌, option_map, find};
     ghost use Rattle.trace_events.specs.Outgoing.{is_on, outgoing_deliveries};
-    ghost use Rattle.trace_clauses.specs.TransferClause.{carried_before};
+    ghost use Rattle.trace_events.specs.TransferClause.{carried_before};
     ghost use Rattle.trace_law.specs.OnStack.{events};
-    ghost use Rattle.trace_values.specs.View.{incoming_view, link_view, outgoing_view};
+    ghost use Rattle.trace_events.specs.View.{incoming_view, link_view, outgoing_view};
 
     /// The last delivery that was begun on the link.
     fn last_begun_on(&self, link: &Link) -> Option<Outgoing<'a>>

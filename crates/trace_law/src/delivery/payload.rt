@@ -2,7 +2,7 @@
 //! the history.
 
 use crate::past::Past;
-use trace_values::{Event, Incoming, Outgoing};
+use trace_events::{Event, Incoming, Outgoing};
 
 /// A delivery, by its direction and its number.
 #[derive(Clone, Copy)]
@@ -22,7 +22,7 @@ struct Backward<'p, 'a> {
 impl Delivery {
     ghost use Rattle.std.specs.Prelude.{◌≡◌};
     ghost use Rattle.trace_law.specs.Payloads.{part_of};
-    ghost use Rattle.trace_values.specs.View.{event_view};
+    ghost use Rattle.trace_events.specs.View.{event_view};
 
     /// What an event adds to the delivery's payload.
     pub(crate) fn part<'a>(self, event: &Event<'a, '_, 'a>) -> &'a [u8]
@@ -119,11 +119,11 @@ impl<'p, 'a> Backward<'p, 'a> {
 impl<'p, 'a> Past<'p, 'a> {
     ghost use Rattle.std.specs.Prelude.{◌≡◌, ◌++◌, ◌+◌, length, reverse, nat_lt};
     ghost use Rattle.trace_law.specs.Payloads as law;
-    ghost use Rattle.trace_clauses.specs.TransferClause as clause;
+    ghost use Rattle.trace_events.specs.TransferClause as clause;
     ghost use Rattle.trace_events.specs.Incoming as received;
     ghost use Rattle.trace_events.specs.Outgoing as sent;
     ghost use Rattle.trace_law.specs.OnStack.{events};
-    ghost use Rattle.trace_values.specs.View.{incoming_view, outgoing_view};
+    ghost use Rattle.trace_events.specs.View.{incoming_view, outgoing_view};
 
     /// The whole payload of a delivery.
     fn backward<'s>(&'s self, incoming: &Incoming) -> Backward<'s, 'a>

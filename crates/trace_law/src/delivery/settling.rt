@@ -3,15 +3,14 @@
 
 use crate::past::Past;
 use capture_form::RuleSet;
-use trace_events::Session;
-use trace_values::{Incoming, Outgoing};
+use trace_events::{Incoming, Outgoing, Session};
 
 impl<'p, 'a> Past<'p, 'a> {
     ghost use Rattle.std.specs.Prelude.{◌≡◌, ◌==◌, ◌&&◌, option_map};
     ghost use Rattle.trace_events.specs.Words.{is_number};
     ghost use Rattle.trace_events.specs.Settling as law;
     ghost use Rattle.trace_law.specs.OnStack.{events};
-    ghost use Rattle.trace_values.specs.View.{incoming_view, outgoing_view};
+    ghost use Rattle.trace_events.specs.View.{incoming_view, outgoing_view};
 
     /// Nothing more is to be told of an incoming delivery: it is told, settled, or of a link that is over.
     pub(crate) fn is_closed(&self, delivery: &Incoming) -> bool

@@ -3,20 +3,20 @@
 
 ghost use Rattle.std.specs.Prelude.{◌≡◌};
 ghost use Rattle.amqp_perf.specs.View.{disposition_fields};
-ghost use Rattle.trace_clauses.specs.BestVerdict as best;
-ghost use Rattle.trace_clauses.specs.CopyVerdict as copies;
+ghost use Rattle.trace_events.specs.BestVerdict as best;
+ghost use Rattle.trace_events.specs.CopyVerdict as copies;
 
 use crate::past::Past;
 use amqp_perf::{Disposition, Outcome};
 use capture_form::RuleSet;
-use trace_values::{Decision, Incoming, Link, Outgoing, names};
+use trace_events::{Decision, Incoming, Link, Outgoing, names};
 
 impl<'p, 'a> Past<'p, 'a> {
     ghost use Rattle.std.specs.Prelude.{◌≡◌, ◌<◌, ◌^◌, length, option_map};
     ghost use Rattle.trace_events.specs.Outgoing.{decision};
-    ghost use Rattle.trace_clauses.specs.Outcome.{is_sent_settled};
+    ghost use Rattle.trace_events.specs.Outcome.{is_sent_settled};
     ghost use Rattle.trace_law.specs.OnStack.{events};
-    ghost use Rattle.trace_values.specs.View.{incoming_view, link_view, outgoing_view};
+    ghost use Rattle.trace_events.specs.View.{incoming_view, link_view, outgoing_view};
 
     /// The copy on the link: the delivery to its client that carries the multicast one.
     fn copy_on(&self, delivery: &Incoming, link: &Link) -> Option<Outgoing<'a>>
@@ -80,7 +80,7 @@ impl<'p, 'a> Past<'p, 'a> {
     ghost use Rattle.std.specs.Prelude.{◌≡◌, ◌<◌, ◌^◌, length};
     ghost use Rattle.trace_law.specs.Check.{told_of};
     ghost use Rattle.trace_law.specs.OnStack.{events};
-    ghost use Rattle.trace_values.specs.View.{incoming_view, link_view};
+    ghost use Rattle.trace_events.specs.View.{incoming_view, link_view};
 
     /// A copy of the delivery is due to some link.
     fn is_due_to_some(&self, rules: &RuleSet, delivery: &Incoming) -> bool

@@ -3,17 +3,16 @@
 use crate::past::Past;
 use capture_form::RuleSet;
 use pairing_cert::Note;
-use trace_events::Session;
-use trace_values::{Incoming, Link};
+use trace_events::{Incoming, Link, Session};
 
 impl<'p, 'a> Past<'p, 'a> {
     ghost use Rattle.std.specs.Prelude.{◌≡◌, ◌<◌, ◌^◌, ◌&&◌, length, bytes_eq, option_map};
     ghost use Rattle.trace_events.specs.Incoming.{address_of};
-    ghost use Rattle.trace_clauses.specs.TransferClause.{to_carry};
+    ghost use Rattle.trace_events.specs.TransferClause.{to_carry};
     ghost use Rattle.trace_events.specs.Fault.{is_id_in_use};
     ghost use Rattle.trace_events.specs.Waiting as law;
     ghost use Rattle.trace_law.specs.OnStack.{events};
-    ghost use Rattle.trace_values.specs.View.{link_view, incoming_view};
+    ghost use Rattle.trace_events.specs.View.{link_view, incoming_view};
 
     /// At each moment since the delivery's completion its address had a consumer.
     fn always_had_consumer(&self, delivery: &Incoming) -> bool

@@ -1,13 +1,13 @@
 //! The consumers of an address.
 
 use crate::past::Past;
-use trace_values::Link;
+use trace_events::Link;
 
 impl<'p, 'a> Past<'p, 'a> {
     ghost use Rattle.std.specs.Prelude.{◌≡◌};
     ghost use Rattle.trace_events.specs.Address as law;
     ghost use Rattle.trace_law.specs.OnStack.{events};
-    ghost use Rattle.trace_values.specs.View.{link_view};
+    ghost use Rattle.trace_events.specs.View.{link_view};
 
     /// The link is a live one of a consumer of the address.
     pub(crate) fn is_consumer_of(&self, address: &[u8], link: &Link) -> bool

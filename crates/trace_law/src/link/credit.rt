@@ -1,7 +1,7 @@
 //! The credit of a link (part 2 of the standard, section 2.6.7).
 
 use crate::past::Past;
-use trace_values::{Link, LinkEvent, is_drain_answer};
+use trace_events::{Link, LinkEvent, is_drain_answer};
 
 impl<'p, 'a> Past<'p, 'a> {
     ghost use Rattle.std.specs.Prelude.{◌≡◌, ◌<◌, ◌^◌, length};
@@ -9,7 +9,7 @@ impl<'p, 'a> Past<'p, 'a> {
     ghost use Rattle.flow_counts.specs.GivenCredit.{last_given};
     ghost use Rattle.trace_events.specs.Credit as law;
     ghost use Rattle.trace_law.specs.OnStack.{events};
-    ghost use Rattle.trace_values.specs.View.{link_view};
+    ghost use Rattle.trace_events.specs.View.{link_view};
 
     /// How many deliveries to the client have begun, as a serial number: the count that it was last told, and those
     /// that began since.

@@ -1,7 +1,7 @@
 use Rattle.std.proofs.Common.{ap, subst, ◌∙◌, drop, arith}
 use Rattle.trace_events.specs.History.{judge}
 use Rattle.trace_law.specs.OnStack.{events}
-use Rattle.trace_values.specs.View.{event_view}
+use Rattle.trace_events.specs.View.{event_view}
 use Rattle.trace_law.proofs.Checking.{events-next}
 use Rattle.trace_law.proofs.ask.walk.+walk.Goals as goal
 

@@ -2,7 +2,7 @@ use Rattle.std.proofs.Common.{◌≡◌, sym, ap, ◌∙◌, subst, ◌∷◌, t
 use Rattle.std.specs.Prelude.{unwrap_or}
 use Rattle.amqp_perf.specs.Message.{to_of}
 use Rattle.trace_events.specs.Incoming.{completes, message, message_address}
-use Rattle.trace_values.specs.View.{event_view, incoming_view}
+use Rattle.trace_events.specs.View.{event_view, incoming_view}
 use Rattle.trace_law.specs.Messages.{found_octets}
 use Rattle.trace_law.specs.OnStack.{events}
 use Rattle.trace_law.specs.declared.past.Past.{Past}

@@ -1,5 +1,5 @@
 use Rattle.trace_law.specs.OnStack.{events}
-use Rattle.trace_values.specs.View.{incoming_view}
+use Rattle.trace_events.specs.View.{incoming_view}
 use Rattle.trace_law.proofs.Payloads.{backward_incoming}
 use Rattle.trace_law.proofs.past.Past.backward.Goals as goal
 

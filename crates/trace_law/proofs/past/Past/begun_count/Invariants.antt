@@ -1,7 +1,7 @@
 use Rattle.std.proofs.Common.{◌≡◌, ◌+◌, ◌≤◌, length}
 use Rattle.trace_events.specs.Credit.{begun_count}
 use Rattle.trace_law.specs.OnStack.{events}
-use Rattle.trace_values.specs.View.{link_view}
+use Rattle.trace_events.specs.View.{link_view}
 use Rattle.trace_law.proofs.past.Past.begun_count.Given as goal
 
 abbrev pub invariant-loop-rest : goal.invariant-loop-rest

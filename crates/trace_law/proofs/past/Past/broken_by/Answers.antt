@@ -5,11 +5,11 @@ use Rattle.trace_events.specs.Session.{StandsLive}
 use Rattle.trace_events.specs.History.{moment_of, judge_unopened}
 use Rattle.trace_events.proofs.Standing.{placed-stands}
 use Rattle.trace_events.specs.Link.{NamesLive}
-use Rattle.trace_clauses.specs.Clauses.{broken_clause}
-use Rattle.trace_clauses.proofs.LiveLinks.{placed-names}
-use Rattle.trace_clauses.proofs.Unopened.{broken-unopened}
+use Rattle.trace_events.specs.Clauses.{broken_clause}
+use Rattle.trace_events.proofs.LiveLinks.{placed-names}
+use Rattle.trace_events.proofs.Unopened.{broken-unopened}
 use Rattle.trace_law.specs.OnStack.{events}
-use Rattle.trace_values.specs.View.{event_view}
+use Rattle.trace_events.specs.View.{event_view}
 use Rattle.trace_law.proofs.KnownAll.{carries_all}
 use Rattle.trace_law.proofs.past.Past.broken_by.Goals as goal
 

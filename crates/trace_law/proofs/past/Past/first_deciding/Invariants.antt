@@ -3,7 +3,7 @@ use Rattle.amqp_perf.specs.View.{disposition_fields}
 use Rattle.trace_events.specs.Words.{or_else}
 use Rattle.trace_events.specs.Outgoing.{first_deciding}
 use Rattle.trace_law.specs.OnStack.{events}
-use Rattle.trace_values.specs.View.{outgoing_view}
+use Rattle.trace_events.specs.View.{outgoing_view}
 use Rattle.trace_law.proofs.past.Past.first_deciding.Given as goal
 
 abbrev pub invariant-loop-rest : goal.invariant-loop-rest

@@ -3,7 +3,7 @@ use Rattle.std.specs.List.{list_any}
 use Rattle.trace_events.specs.Incoming.{incoming_deliveries}
 use Rattle.trace_events.specs.Due.{is_unsent}
 use Rattle.trace_law.specs.OnStack.{events}
-use Rattle.trace_values.specs.View.{link_view}
+use Rattle.trace_events.specs.View.{link_view}
 use Rattle.trace_law.proofs.past.Past.has_unsent.Given as goal
 
 abbrev pub invariant-loop-rest : goal.invariant-loop-rest

@@ -1,7 +1,7 @@
 use Rattle.std.proofs.Common.{◌≡◌}
 use Rattle.trace_events.specs.Incoming.{is_complete}
 use Rattle.trace_law.specs.OnStack.{events}
-use Rattle.trace_values.specs.View.{incoming_view}
+use Rattle.trace_events.specs.View.{incoming_view}
 use Rattle.trace_law.proofs.past.Past.is_complete.Given as goal
 
 abbrev pub invariant-loop-rest : goal.invariant-loop-rest

@@ -1,7 +1,7 @@
 use Rattle.std.proofs.Common.{◌≡◌, ◌≤◌, length}
 use Rattle.trace_events.specs.Due.{is_due}
 use Rattle.trace_law.specs.OnStack.{events}
-use Rattle.trace_values.specs.View.{incoming_view, link_view}
+use Rattle.trace_events.specs.View.{incoming_view, link_view}
 use Rattle.trace_law.proofs.past.Past.is_due.Given as goal
 
 abbrev pub invariant-loop-rest : goal.invariant-loop-rest

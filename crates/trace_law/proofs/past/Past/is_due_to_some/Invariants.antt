@@ -3,7 +3,7 @@ use Rattle.std.specs.List.{list_any}
 use Rattle.trace_events.specs.Link.{links}
 use Rattle.trace_events.specs.Due.{is_due}
 use Rattle.trace_law.specs.OnStack.{events}
-use Rattle.trace_values.specs.View.{incoming_view}
+use Rattle.trace_events.specs.View.{incoming_view}
 use Rattle.trace_law.proofs.past.Past.is_due_to_some.Given as goal
 
 abbrev pub invariant-loop-rest : goal.invariant-loop-rest

@@ -1,7 +1,7 @@
 use Rattle.std.proofs.Common.{◌≡◌}
 use Rattle.trace_events.specs.Outgoing.{is_settled_by_consumer}
 use Rattle.trace_law.specs.OnStack.{events}
-use Rattle.trace_values.specs.View.{outgoing_view}
+use Rattle.trace_events.specs.View.{outgoing_view}
 use Rattle.trace_law.proofs.past.Past.is_settled_by_consumer.Given as goal
 
 abbrev pub invariant-loop-rest : goal.invariant-loop-rest

@@ -1,6 +1,6 @@
 use Rattle.std.proofs.Common.{◌≡◌, ◌≤◌, ◌+◌, length}
 use Rattle.std.specs.Prelude.{count_by}
-use Rattle.trace_clauses.specs.Verdict.{tells_outcome}
+use Rattle.trace_events.specs.Verdict.{tells_outcome}
 use Rattle.trace_law.specs.OnStack.{events}
 use Rattle.trace_law.proofs.past.Past.outcomes.Given as goal
 

@@ -3,7 +3,7 @@ use Rattle.trace_events.specs.Words.{is_number, or_else}
 use Rattle.trace_events.specs.Outgoing.{outgoing_deliveries}
 use Rattle.trace_events.specs.Settling.{is_to_settle, to_settle}
 use Rattle.trace_law.specs.OnStack.{events}
-use Rattle.trace_values.specs.View.{outgoing_view}
+use Rattle.trace_events.specs.View.{outgoing_view}
 use Rattle.trace_events.proofs.Earliest.{earliest}
 use Rattle.trace_law.proofs.past.Past.to_settle.Given as goal
 

@@ -3,7 +3,7 @@ use Rattle.std.specs.Prelude.{count_by}
 use Rattle.trace_events.specs.Incoming.{incoming_deliveries, is_from}
 use Rattle.trace_events.specs.Waiting.{is_undecided, undecided_count}
 use Rattle.trace_law.specs.OnStack.{events}
-use Rattle.trace_values.specs.View.{link_view}
+use Rattle.trace_events.specs.View.{link_view}
 use Rattle.trace_law.proofs.past.Past.undecided_count.Given as goal
 
 abbrev pub invariant-loop-rest : goal.invariant-loop-rest
