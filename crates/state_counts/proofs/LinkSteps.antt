@@ -22,8 +22,8 @@ use Rattle.trace_events.proofs.LinkLives.{judged-stands}
 use Rattle.trace_events.proofs.Links.{IsKnown, known_still, named_known, of_kind, opened_number, opened_by, attach_in, attach_begins, attach_link}
 use Rattle.trace_events.proofs.Opens.{opened-session, opened-link}
 use Rattle.trace_events.proofs.StepWords.{or_else-none}
-use Rattle.trace_clauses.proofs.Undecided.{link_of_session}
-use Rattle.trace_clauses.proofs.WithinCredit.{AreUnused, unused_step, opens_still}
+use Rattle.trace_events.proofs.Undecided.{link_of_session}
+use Rattle.trace_events.proofs.WithinCredit.{AreUnused, unused_step, opens_still}
 use Rattle.state_counts.specs.LinkCounts.{named_handle, link_counts, unmoved, moved}
 use Rattle.state_counts.specs.declared.link_counts.LinkCounts.{LinkCounts}
 

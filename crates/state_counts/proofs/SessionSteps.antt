@@ -14,7 +14,7 @@ use Rattle.trace_events.specs.Said.{as_begin, in_begin, out_begin, out_meaning, 
 use Rattle.trace_events.specs.Connection.{is_final, is_over}
 use Rattle.trace_events.specs.Session.{live_session, last_session, session_begun, own_session, begins_out, ends_in, ends_out}
 use Rattle.trace_events.specs.Window.{in_window_event, out_window_event, window_event, window_events}
-use Rattle.trace_clauses.specs.Clauses.{first_broken}
+use Rattle.trace_events.specs.Clauses.{first_broken}
 use Rattle.trace_events.proofs.CountSteps.{window_events-elsewhere, session_window-same, given_window-same, next_outgoing_id-same, next_incoming_id-same, session_window-elsewhere, given_window-elsewhere, next_outgoing_id-elsewhere, next_incoming_id-elsewhere, session_window-sent, given_window-sent, next_outgoing_id-sent, next_incoming_id-sent, session_window-received, given_window-received, next_outgoing_id-received, next_incoming_id-received, session_window-their_flow, given_window-their_flow, next_outgoing_id-their_flow, next_incoming_id-their_flow, session_window-our_flow, given_window-our_flow, next_outgoing_id-our_flow, next_incoming_id-our_flow}
 use Rattle.trace_events.proofs.Elsewhere.{live_session-other}
 use Rattle.trace_events.proofs.EventKinds.{window_event-said_out}
@@ -30,9 +30,9 @@ use Rattle.trace_events.proofs.LinkLives.{live_session-at}
 use Rattle.trace_events.proofs.SessionNumbers.{known-later, own_session-number, last_session-known, judged-event_session, one_number}
 use Rattle.trace_events.proofs.Sessions.{IsKnown, not_on}
 use Rattle.trace_events.proofs.SessionSteps.{live_session-same, live_session-over, live_session-ended, live_session-begun}
-use Rattle.trace_clauses.proofs.BegunDeliveries.{begun-on_link, begun-linked}
-use Rattle.trace_clauses.proofs.ClausesMet.{lawful-past}
-use Rattle.trace_clauses.proofs.OpenedConnections.{begun-not_over}
+use Rattle.trace_events.proofs.BegunDeliveries.{begun-on_link, begun-linked}
+use Rattle.trace_events.proofs.ClausesMet.{lawful-past}
+use Rattle.trace_events.proofs.OpenedConnections.{begun-not_over}
 use Rattle.state_counts.specs.Sessions.{counted, session_at, begins_delivery, begun, moved, moved_by, opens_or_ends, session_next, session_behind}
 use Rattle.state_counts.specs.declared.sessions.CountedSession.{CountedSession}
 use Rattle.state_counts.proofs.LinkSteps.{off-session}

@@ -4,10 +4,10 @@ ghost use Rattle.std.specs.Prelude.{◌≡◌, Some};
 ghost use Rattle.flow_counts.specs.Credit.{Begun};
 ghost use Rattle.trace_events.specs.Credit.{link_event, their_flow, our_flow};
 ghost use Rattle.state_counts.specs.LinkCounts.{moved, unmoved};
-ghost use Rattle.trace_values.specs.View.{event_view, link_view};
+ghost use Rattle.trace_events.specs.View.{event_view, link_view};
 
 use amqp_perf::Flow;
-use trace_values::{Event, Link, LinkEvent, is_drain_answer};
+use trace_events::{Event, Link, LinkEvent, is_drain_answer};
 
 /// The counts of a link; those of a consumer's say nothing of a producer's, nor the other way round.
 #[derive(Clone, Copy, Debug, PartialEq, Eq)]

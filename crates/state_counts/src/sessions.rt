@@ -6,11 +6,10 @@ ghost use Rattle.trace_events.specs.Outgoing.{next_delivery_id};
 ghost use Rattle.state_counts.specs.Sessions.{begins_delivery, begun, counted, moved, moved_by, opens_or_ends, session_next};
 ghost use Rattle.trace_events.specs.Event.{is_on_session};
 ghost use Rattle.trace_events.specs.Window.{window_event, window_events};
-ghost use Rattle.trace_values.specs.View.{Events, event_view};
+ghost use Rattle.trace_events.specs.View.{Events, event_view};
 
 use flow_counts::{INCOMING_WINDOW, WindowEvent};
-use trace_events::Session;
-use trace_values::Event;
+use trace_events::{Event, Session};
 
 /// A session with its counts.
 #[derive(Clone, Copy, Debug)]

@@ -4,10 +4,10 @@ use Rattle.capture_form.specs.declared.records.Record.{Record}
 use Rattle.capture_form.specs.Rules.{RuleSet}
 use Rattle.trace_events.specs.Event.{Event}
 use Rattle.trace_events.specs.History.{judge, history}
-use Rattle.trace_clauses.specs.Clauses.{first_broken}
-use Rattle.trace_clauses.specs.Verdict.{tally_of}
-use Rattle.trace_clauses.specs.declared.tally.Tally.{Tally}
-use Rattle.trace_clauses.proofs.Lawful.{history-push}
+use Rattle.trace_events.specs.Clauses.{first_broken}
+use Rattle.trace_events.specs.Verdict.{tally_of}
+use Rattle.trace_events.specs.declared.tally.Tally.{Tally}
+use Rattle.trace_events.proofs.Lawful.{history-push}
 use Rattle.state_tables.specs.Connections.{IsLawfulNext}
 use Rattle.state_answers.specs.Tables.{AreTables}
 use Rattle.state_answers.specs.declared.tables.Tables.{Tables}

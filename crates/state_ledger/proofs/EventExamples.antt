@@ -8,11 +8,11 @@ use Rattle.trace_events.specs.Event.{Event, Link, Incoming, Outgoing}
 use Rattle.trace_events.specs.History.{judge}
 use Rattle.capture_form.specs.declared.records.Record.{Record}
 use Rattle.capture_form.specs.Rules.{no_rules}
-use Rattle.trace_clauses.specs.Clauses.{broken_clause}
-use Rattle.trace_clauses.specs.declared.clause.Clause.TheVariants.{L1, L2}
-use Rattle.trace_clauses.specs.Written.{spoken_octets, written_open}
-use Rattle.trace_clauses.proofs.Captures.{opened}
-use Rattle.trace_clauses.proofs.Made.{write}
+use Rattle.trace_events.specs.Clauses.{broken_clause}
+use Rattle.trace_events.specs.declared.clause.Clause.TheVariants.{L1, L2}
+use Rattle.trace_events.specs.Written.{spoken_octets, written_open}
+use Rattle.trace_events.proofs.Captures.{opened}
+use Rattle.trace_events.proofs.Made.{write}
 use Rattle.state_ledger.specs.HeldEvents.{has_parts, facts_of, parts_of, event_of}
 use Rattle.state_ledger.specs.NextEvents.{IsAnswer, IsHeldAnswer}
 use Rattle.state_ledger.specs.declared.not_entered.NotEntered.TheVariants.{Broken, Memory}

@@ -1,7 +1,7 @@
 -- What a ledger stands for and keeps, where it forgets and where it keeps all.
 use Rattle.std.proofs.Common.{◌≡◌, sym, ap, ◌∙◌, ℕ, true, false, List, [], ◌∷◌, length, arith}
 use Rattle.capture_form.specs.Rules.{no_rules}
-use Rattle.trace_clauses.specs.declared.tally.Tally.{Tally}
+use Rattle.trace_events.specs.declared.tally.Tally.{Tally}
 use Rattle.trace_events.specs.Event.{Event}
 use Rattle.state_answers.specs.Tables.{KeepsLast}
 use Rattle.state_ledger.specs.Ledger.{KeepsEnough, Stands, StandsWhole}

@@ -7,9 +7,9 @@ use Rattle.trace_events.specs.Session.{StandsLive}
 use Rattle.trace_events.specs.Link.{NamesLive}
 use Rattle.trace_events.specs.History.{moment_of, opened, judge}
 use Rattle.trace_events.proofs.Standing.{placed-stands}
-use Rattle.trace_clauses.specs.Clauses.{broken_clause}
-use Rattle.trace_clauses.proofs.LiveLinks.{placed-names}
-use Rattle.trace_clauses.proofs.Unopened.{broken-unopened}
+use Rattle.trace_events.specs.Clauses.{broken_clause}
+use Rattle.trace_events.proofs.LiveLinks.{placed-names}
+use Rattle.trace_events.proofs.Unopened.{broken-unopened}
 use Rattle.state_ledger.specs.NextEvents.{unopened}
 
 -- an event like it, at the moment that was read, is it

@@ -4,9 +4,9 @@ use Rattle.capture_form.specs.declared.records.Record.{Record}
 use Rattle.capture_form.specs.Rules.{RuleSet}
 use Rattle.trace_events.specs.Event.{Event}
 use Rattle.trace_events.specs.History.{judge, history}
-use Rattle.trace_clauses.specs.declared.clause.Clause.{Clause}
-use Rattle.trace_clauses.specs.Clauses.{broken_clause}
-use Rattle.trace_clauses.specs.Verdict.{tally_of}
+use Rattle.trace_events.specs.declared.clause.Clause.{Clause}
+use Rattle.trace_events.specs.Clauses.{broken_clause}
+use Rattle.trace_events.specs.Verdict.{tally_of}
 use Rattle.state_answers.specs.Tables.{AreTables, AreWhole, KeepsLast}
 use Rattle.state_ledger.specs.declared.ledger.Ledger.{Ledger}
 use Rattle.state_ledger.specs.declared.not_entered.NotEntered.{NotEntered}

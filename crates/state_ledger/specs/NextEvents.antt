@@ -2,8 +2,8 @@
 use Rattle.std.specs.Prelude.{◌≡◌, List, Some, None, Result, Ok, Err, true}
 use Rattle.capture_form.specs.declared.records.Record.{Record}
 use Rattle.capture_form.specs.Rules.{RuleSet}
-use Rattle.trace_clauses.specs.declared.clause.Clause.{Clause}
-use Rattle.trace_clauses.specs.Clauses.{broken_clause}
+use Rattle.trace_events.specs.declared.clause.Clause.{Clause}
+use Rattle.trace_events.specs.Clauses.{broken_clause}
 use Rattle.trace_events.specs.Event.{Event}
 use Rattle.trace_events.specs.History.{moment_of, judge, judge_unopened}
 use Rattle.state_ledger.specs.HeldEvents.{has_parts, parts_of}

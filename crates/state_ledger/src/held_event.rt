@@ -4,13 +4,12 @@ ghost use Rattle.std.specs.Prelude.{◌≡◌, OnOk, OnErr, true};
 ghost use Rattle.state_ledger.specs.HeldEvents.{facts_of, parts_of, has_parts, held_event_view};
 ghost use Rattle.trace_events.specs.Event as law;
 ghost use Rattle.trace_events.specs.History.{moment_of};
-ghost use Rattle.trace_values.specs.View.{event_view};
+ghost use Rattle.trace_events.specs.View.{event_view};
 
 use crate::held_parts::HeldParts;
 use pairing_cert::Note;
 use std::alloc::{AllocError, Global};
-use trace_events::{Fault, Session};
-use trace_values::{Event, ReadRecord};
+use trace_events::{Event, Fault, ReadRecord, Session};
 
 /// What of an event borrows nothing.
 #[doc(hidden)]

@@ -3,12 +3,12 @@
 ghost use Rattle.std.specs.Prelude.{◌≡◌, IfOk, OnOk, OnErr, is_some, true, option_map};
 ghost use Rattle.state_ledger.specs.HeldEvents.{parts_of, has_parts, held_incoming_view, held_outgoing_view, held_parts_view};
 ghost use Rattle.state_tables.specs.HeldViews.{held_link_view};
-ghost use Rattle.trace_values.specs.View.{event_view, incoming_view, link_view, outgoing_view};
+ghost use Rattle.trace_events.specs.View.{event_view, incoming_view, link_view, outgoing_view};
 
 use pairing_cert::Note;
 use state_tables::HeldLink;
 use std::alloc::{AllocError, Global};
-use trace_values::{Event, Incoming, Link, Outgoing};
+use trace_events::{Event, Incoming, Link, Outgoing};
 
 /// A delivery from a client, with a link of its own.
 #[doc(hidden)]

@@ -1,21 +1,21 @@
 //! The next record of a capture, judged by whoever can tell of those before it.
 
 ghost use Rattle.std.specs.Prelude.{OnOk, ◌≡◌, ◌≢◌, None, IfErr, IfSome, is_some, length, true};
-ghost use Rattle.trace_clauses.specs.Clauses as law;
-ghost use Rattle.trace_clauses.specs.TransferClause.{to_carry};
+ghost use Rattle.trace_events.specs.Clauses as law;
+ghost use Rattle.trace_events.specs.TransferClause.{to_carry};
 ghost use Rattle.trace_events.specs.History.{moment_of};
 ghost use Rattle.trace_events.specs.Said.{out_transfer};
 ghost use Rattle.state_ledger.specs.HeldEvents.{held_event_view};
 ghost use Rattle.state_ledger.specs.NextEvents.{IsHeldAnswer, unopened};
 ghost use Rattle.state_ledger.specs.declared.not_entered.NotEntered.TheVariants.{Memory};
-ghost use Rattle.trace_values.specs.Known.{CarriesKnown, OpensKnown};
-ghost use Rattle.trace_values.specs.View.{Events};
+ghost use Rattle.trace_events.specs.Known.{CarriesKnown, OpensKnown};
+ghost use Rattle.trace_events.specs.View.{Events};
 
 use crate::{HeldEvent, NotEntered};
 use capture_form::RuleSet;
 use std::alloc::Global;
+use trace_events::ReadRecord;
 use trace_judge::{Questions, broken_clause, judge_unopened, open};
-use trace_values::ReadRecord;
 
 /// The event of the next record, which has this number, is held, but for its moment. The past must be able to tell of what the
 /// event carries and, where it breaks no clause, of what it opens.

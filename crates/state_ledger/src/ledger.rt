@@ -15,8 +15,7 @@ use crate::{HeldEvent, counted, hold_next};
 use capture_form::{Record, RuleSet};
 use state_answers::{LentTables, Tables};
 use std::alloc::{AllocError, Global};
-use trace_clauses::Tally;
-use trace_values::ReadRecord;
+use trace_events::{ReadRecord, Tally};
 
 /// The tables, with what the records so far hold.
 pub struct Ledger {

@@ -1,7 +1,7 @@
 //! Why a record is not taken.
 
 use std::alloc::AllocError;
-use trace_clauses::Clause;
+use trace_events::Clause;
 
 /// Why a record is not taken.
 #[derive(Clone, Copy, Debug, PartialEq, Eq)]

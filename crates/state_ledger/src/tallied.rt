@@ -1,11 +1,10 @@
 //! What a capture holds, counted record by record.
 
 ghost use Rattle.std.specs.Prelude.{◌≡◌, ◌∷◌, ◌<◌, ◌^◌, length};
-ghost use Rattle.trace_clauses.specs.Verdict.{tally_of};
-ghost use Rattle.trace_values.specs.View.{Events, event_view};
+ghost use Rattle.trace_events.specs.Verdict.{tally_of};
+ghost use Rattle.trace_events.specs.View.{Events, event_view};
 
-use trace_clauses::Tally;
-use trace_values::Event;
+use trace_events::{Event, Tally};
 
 /// The tally of some events and this one more, from theirs, where they are fewer than 2^63; beyond that a count stays at the
 /// greatest number of 64 bits.

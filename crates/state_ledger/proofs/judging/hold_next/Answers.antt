@@ -1,13 +1,13 @@
 use Rattle.std.proofs.lemmas.Result.{err_from_is_err_and}
 use Rattle.std.proofs.Common.{◌≡◌, refl, sym, ap, subst, ◌∙◌, true, Option, Some, None, IfSome, is_some}
-use Rattle.trace_clauses.specs.declared.clause.Clause.{Clause}
-use Rattle.trace_clauses.specs.Clauses.{broken_clause}
-use Rattle.trace_clauses.specs.TransferClause.{to_carry}
+use Rattle.trace_events.specs.declared.clause.Clause.{Clause}
+use Rattle.trace_events.specs.Clauses.{broken_clause}
+use Rattle.trace_events.specs.TransferClause.{to_carry}
 use Rattle.trace_events.specs.Said.{out_transfer}
 use Rattle.trace_events.specs.Event.{Event}
 use Rattle.trace_events.specs.History.{moment_of}
-use Rattle.trace_values.specs.Known.{CarriesKnown, OpensKnown}
-use Rattle.trace_values.specs.View.{event_view}
+use Rattle.trace_events.specs.Known.{CarriesKnown, OpensKnown}
+use Rattle.trace_events.specs.View.{event_view}
 use Rattle.state_ledger.specs.HeldEvents.{has_parts, parts_of}
 use Rattle.state_ledger.specs.NextEvents.{unopened}
 use Rattle.state_ledger.proofs.UnopenedRecords.{stands-live, names-live, number-is, broken-is, opened-is, at-moment}

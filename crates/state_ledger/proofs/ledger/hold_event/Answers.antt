@@ -1,7 +1,7 @@
 use Rattle.std.proofs.Common.{◌≡◌, ◌≢◌, ap, ◌∙◌, List, length, true, is_some}
 use Rattle.capture_form.specs.declared.records.Record.{Record}
 use Rattle.trace_events.specs.History.{history, moment_of}
-use Rattle.trace_clauses.proofs.Unopened.{broken-unopened}
+use Rattle.trace_events.proofs.Unopened.{broken-unopened}
 use Rattle.state_answers.specs.Tables.{AreTables, KeepsLast}
 use Rattle.state_ledger.specs.Ledger.{broken_behind}
 use Rattle.state_ledger.specs.declared.not_entered.NotEntered.{NotEntered}

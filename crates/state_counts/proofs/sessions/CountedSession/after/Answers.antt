@@ -1,7 +1,7 @@
 use Rattle.std.proofs.Common.{sym, ap, ◌∙◌, if◌then◌else◌}
 use Rattle.flow_counts.specs.Serial.{serial_add}
 use Rattle.trace_events.specs.Window.{window_event}
-use Rattle.trace_values.specs.View.{event_view}
+use Rattle.trace_events.specs.View.{event_view}
 use Rattle.state_counts.specs.declared.sessions.CountedSession.{CountedSession}
 use Rattle.state_counts.specs.Sessions.{moved}
 use Rattle.state_counts.proofs.SessionSteps.{counted_next}

@@ -1,7 +1,7 @@
 use Rattle.std.proofs.Common.{◌≡◌, ap, subst, [], ◌∷◌, ◌++◌, None, is_some, true}
 use Rattle.std.proofs.lemmas.Result.{err_from_is_err_and}
 use Rattle.capture_form.specs.declared.records.Record.{Record}
-use Rattle.trace_clauses.specs.declared.tally.Tally.{Tally}
+use Rattle.trace_events.specs.declared.tally.Tally.{Tally}
 use Rattle.state_ledger.specs.Ledger.{IsReason, Stands, broken_behind}
 use Rattle.state_ledger.proofs.ledger.Ledger.enter.Goals as goal
 

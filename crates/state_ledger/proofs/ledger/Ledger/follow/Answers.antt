@@ -1,7 +1,7 @@
 use Rattle.std.proofs.Common.{sym, subst, [], ◌∷◌, ◌++◌, List}
 use Rattle.trace_events.specs.Event.{Event}
 use Rattle.trace_events.specs.History.{history}
-use Rattle.trace_values.specs.View.{event_view}
+use Rattle.trace_events.specs.View.{event_view}
 use Rattle.state_tables.specs.Connections.{IsLawfulNext}
 use Rattle.state_answers.specs.Tables.{KeepsLast}
 use Rattle.state_ledger.proofs.Entered.{few, longer, longer-past}
