@@ -15,8 +15,8 @@ use Rattle.trace_events.specs.Event.{Event, Link}
 use Rattle.trace_events.specs.Address.{is_consumer_of}
 use Rattle.trace_events.specs.Link.{link_at}
 use Rattle.trace_events.specs.History.{history, judge}
-use Rattle.trace_clauses.specs.Written.{spoken_octets}
-use Rattle.trace_clauses.proofs.Made.{from, write, consumer, detach_of, pair, producer, q, written_to_consumer, written_to_producer}
+use Rattle.trace_events.specs.Written.{spoken_octets}
+use Rattle.trace_events.proofs.Made.{from, write, consumer, detach_of, pair, producer, q, written_to_consumer, written_to_producer}
 use Rattle.state_tables.specs.ConsumerLinks.{consumer_at, opened_at, with_opened, without}
 use Rattle.state_tables.specs.Consumers.{has_some, has_link_of, opens_consumer, opens_for}
 

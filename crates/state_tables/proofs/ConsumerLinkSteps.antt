@@ -11,8 +11,8 @@ use Rattle.trace_events.proofs.Along.{and_last}
 use Rattle.trace_events.proofs.Judged.{AreJudged}
 use Rattle.trace_events.proofs.LinkLives.{is_live-new}
 use Rattle.trace_events.proofs.LinkNumbers.{judged-found, link_at-later, own_link-number}
-use Rattle.trace_clauses.proofs.LinkEnds.{is_live-next, lives-live}
-use Rattle.trace_clauses.proofs.OneConsumer.{passes-some}
+use Rattle.trace_events.proofs.LinkEnds.{is_live-next, lives-live}
+use Rattle.trace_events.proofs.OneConsumer.{passes-some}
 use Rattle.state_tables.specs.ConsumerLinks.{consumer_at, has_link, is_live_consumer, opened_at, with_opened, without}
 use Rattle.state_tables.proofs.ConsumerSteps.{any-from, any-gives, known, same_some}
 

@@ -18,7 +18,7 @@ use Rattle.trace_events.proofs.LinkNumbers.{judged-found, link_at-later, own_lin
 use Rattle.trace_events.proofs.Links.{IsKnown}
 use Rattle.trace_events.proofs.SessionNumbers.{last_session-known}
 use Rattle.state_tables.specs.Consumers.{has_link_of, opens_for}
-use Rattle.trace_clauses.proofs.LinkEnds.{is_live-next, lives-live}
+use Rattle.trace_events.proofs.LinkEnds.{is_live-next, lives-live}
 
 -- ---- what a test finds in a list
 

@@ -13,10 +13,10 @@ use Rattle.trace_events.specs.Work.{unsent_copies}
 use Rattle.trace_events.proofs.Judged.{AreJudged}
 use Rattle.trace_events.proofs.LinkLives.{judged-stands}
 use Rattle.trace_events.proofs.SessionNumbers.{last_session-known}
-use Rattle.trace_clauses.proofs.IncomingProgress.{judged-kept}
-use Rattle.trace_clauses.proofs.Parts.{IsKept, each_delivery}
-use Rattle.trace_clauses.proofs.UnsentCopies.{has_unsent_listed, listed_unsent, unsent_listed}
-use Rattle.trace_clauses.proofs.WaitingQueue.{all_contained, find_has}
+use Rattle.trace_events.proofs.IncomingProgress.{judged-kept}
+use Rattle.trace_events.proofs.Parts.{IsKept, each_delivery}
+use Rattle.trace_events.proofs.UnsentCopies.{has_unsent_listed, listed_unsent, unsent_listed}
+use Rattle.trace_events.proofs.WaitingQueue.{all_contained, find_has}
 use Rattle.state_tables.specs.Copies.{copies_on, copies_at, has_delivery}
 use Rattle.state_tables.proofs.CopyNumbers.{number-of, number-from}
 

@@ -7,8 +7,8 @@ use Rattle.std.proofs.lemmas.List.{length-map}
 use Rattle.std.proofs.lemmas.Map.Made.{length-from_same_keys}
 use Rattle.number_groups.specs.Numbers.{is_among}
 use Rattle.trace_events.specs.Event.{Incoming}
-use Rattle.trace_clauses.proofs.CopiesCounted.{HaveOwnNumbers}
-use Rattle.trace_clauses.proofs.WaitingQueue.{contains_first, contains_later, contains_cases, contains_none}
+use Rattle.trace_events.proofs.CopiesCounted.{HaveOwnNumbers}
+use Rattle.trace_events.proofs.WaitingQueue.{contains_first, contains_later, contains_cases, contains_none}
 use Rattle.state_tables.specs.Copies.{has_delivery}
 
 -- ---- of some that leave

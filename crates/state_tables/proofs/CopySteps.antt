@@ -28,14 +28,14 @@ use Rattle.trace_events.proofs.Links as links
 use Rattle.trace_events.proofs.OutgoingSteps.{names_on}
 use Rattle.trace_events.proofs.SessionNumbers.{last_session-known}
 use Rattle.trace_events.proofs.SessionPlaces.{session-connection}
-use Rattle.trace_clauses.specs.Clauses.{first_broken}
-use Rattle.trace_clauses.proofs.ClausesMet.{lawful-past}
-use Rattle.trace_clauses.proofs.CopiesCounted.{HaveOwnNumbers, comes_due_listed, unsent_apart}
-use Rattle.trace_clauses.proofs.LinkEnds.{is_live-next, lives-live}
-use Rattle.trace_clauses.proofs.OneConsumer.{passes-some}
-use Rattle.trace_clauses.proofs.Undecided.{link_of_session}
-use Rattle.trace_clauses.proofs.UnsentCopies.{completes-written_none, unsent_copies_move}
-use Rattle.trace_clauses.proofs.WaitingQueue.{contains_first, contains_later, contains_cases, contains_none}
+use Rattle.trace_events.specs.Clauses.{first_broken}
+use Rattle.trace_events.proofs.ClausesMet.{lawful-past}
+use Rattle.trace_events.proofs.CopiesCounted.{HaveOwnNumbers, comes_due_listed, unsent_apart}
+use Rattle.trace_events.proofs.LinkEnds.{is_live-next, lives-live}
+use Rattle.trace_events.proofs.OneConsumer.{passes-some}
+use Rattle.trace_events.proofs.Undecided.{link_of_session}
+use Rattle.trace_events.proofs.UnsentCopies.{completes-written_none, unsent_copies_move}
+use Rattle.trace_events.proofs.WaitingQueue.{contains_first, contains_later, contains_cases, contains_none}
 use Rattle.number_groups.specs.Numbers.{is_among}
 use Rattle.state_tables.specs.Addressed.{IsAddressed}
 use Rattle.state_tables.specs.ConsumerLinks.{has_link}

@@ -19,8 +19,8 @@ use Rattle.trace_events.proofs.LinkLives.{judged-stands, live_session-at}
 use Rattle.trace_events.proofs.Links.{IsKnown}
 use Rattle.trace_events.proofs.SessionNumbers.{last_session-known}
 use Rattle.trace_events.proofs.Standing.{live-on}
-use Rattle.trace_clauses.proofs.LiveLinks.{live-link}
-use Rattle.trace_clauses.proofs.Undecided.{link_of_session}
+use Rattle.trace_events.proofs.LiveLinks.{live-link}
+use Rattle.trace_events.proofs.Undecided.{link_of_session}
 use Rattle.state_tables.specs.EndedLinks.{AreEnded, IsEndedOf, ends_at, ends_channel, ends_handle, ends_named, may_end}
 use Rattle.state_tables.specs.Links.{Counted, HandleState, attaches_out, begun, counted_next, detaches_in, detaches_out, link_of, nothing, standing, standing_at, standing_behind, standing_next}
 use Rattle.state_counts.specs.LinkCounts.{named_handle}

@@ -18,7 +18,7 @@ use Rattle.trace_events.proofs.Links as links
 use Rattle.trace_events.proofs.LinkSteps as steps
 use Rattle.trace_events.proofs.SessionNumbers.{judged-event_session, own_session-number}
 use Rattle.trace_events.proofs.Sessions as sessions
-use Rattle.trace_clauses.proofs.Undecided.{link_of_session}
+use Rattle.trace_events.proofs.Undecided.{link_of_session}
 use Rattle.state_tables.specs.Links.{Counted, Asked, HandleState, nothing, counted, begun, asked_in, standing, attaches_in, attaches_out, detaches_in, detaches_out, counted_next, link_next, asked_next, standing_next}
 use Rattle.state_counts.specs.LinkCounts.{named_handle}
 use Rattle.state_counts.specs.declared.link_counts.LinkCounts.{LinkCounts}

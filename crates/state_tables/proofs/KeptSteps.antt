@@ -4,7 +4,7 @@ use Rattle.std.proofs.lemmas.Bool.{eq-eqb}
 use Rattle.capture_form.specs.Rules.{RuleSet}
 use Rattle.trace_events.specs.Words.{is_number}
 use Rattle.trace_events.specs.Event.{Event, channel_of, is_on_channel}
-use Rattle.trace_clauses.specs.Clauses.{first_broken}
+use Rattle.trace_events.specs.Clauses.{first_broken}
 use Rattle.trace_events.proofs.Judged.{AreJudged}
 use Rattle.state_tables.specs.Connections.{AreSeen, AreKept, TakesOne, seen_in, session_in, unanswered_in, connection_at, seen_next}
 use Rattle.state_counts.specs.Sessions.{session_at, session_behind}

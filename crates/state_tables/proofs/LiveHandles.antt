@@ -7,8 +7,8 @@ use Rattle.trace_events.specs.declared.session.Session.{Session}
 use Rattle.trace_events.specs.Said.{in_attach}
 use Rattle.trace_events.specs.Session.{live_session}
 use Rattle.trace_events.specs.Link.{session_link, is_live, unanswered_attach, last_in_attach, attaches_in, attaches_out, first_count}
-use Rattle.trace_clauses.specs.LinkClause.{asked_by, asking}
-use Rattle.trace_values.specs.Answering.{their_first_count}
+use Rattle.trace_events.specs.LinkClause.{asked_by, asking}
+use Rattle.trace_events.specs.Answering.{their_first_count}
 use Rattle.state_tables.specs.Links.{HandleState, nothing, link_of, counts_of, asking_of, first_count_of, counted, asks, asked_in, standing, standing_at}
 use Rattle.state_counts.specs.LinkCounts.{link_counts}
 

@@ -3,10 +3,10 @@ use Rattle.std.proofs.Common.{◌≡◌, refl, ap, ◌∙◌, Bool, true, List, 
 use Rattle.amqp_perf.specs.declared.begin.Begin.{Begin}
 use Rattle.amqp_perf.specs.Meaning.{Meaning, AnOpen, ABegin, AnAttach, AFlow, ATransfer, ADisposition, ADetach, AnEnd, AClose, AttachFields}
 use Rattle.capture_form.specs.Rules.{RuleSet}
-use Rattle.trace_clauses.specs.declared.clause.Clause.TheVariants.{L2, L3}
-use Rattle.trace_clauses.specs.Clauses.{first_broken, broken_clause, meaning_meets}
-use Rattle.trace_clauses.specs.LinkClause.{asking, answers_attach, answers_one}
-use Rattle.trace_clauses.proofs.ClausesMet.{met}
+use Rattle.trace_events.specs.declared.clause.Clause.TheVariants.{L2, L3}
+use Rattle.trace_events.specs.Clauses.{first_broken, broken_clause, meaning_meets}
+use Rattle.trace_events.specs.LinkClause.{asking, answers_attach, answers_one}
+use Rattle.trace_events.proofs.ClausesMet.{met}
 use Rattle.trace_events.specs.Words.{is_some_and, or_else}
 use Rattle.trace_events.specs.Frame.{Frame, Spoken, spoken_in}
 use Rattle.trace_events.specs.Event.{Event, Moment, Opened, In, Out, Lost, Broken, out_frame}
@@ -14,7 +14,7 @@ use Rattle.trace_events.specs.declared.session.Session.{Session}
 use Rattle.trace_events.specs.Said.{as_begin, as_attach}
 use Rattle.trace_events.specs.Session.{has_unanswered_begin}
 use Rattle.trace_events.proofs.Along.{and_first}
-use Rattle.trace_values.specs.Known.{OpensKnown}
+use Rattle.trace_events.specs.Known.{OpensKnown}
 
 some_of : {A : Type 0} (o : Option A) (test : A → Bool) → is_some_and o test ≡ true → is_some o ≡ true
 some_of None test is = absurd cc

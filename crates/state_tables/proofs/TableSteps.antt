@@ -9,8 +9,8 @@ use Rattle.std.proofs.lemmas.List.Folds.{list_any-append, list_any_more}
 use Rattle.std.proofs.lemmas.Map.Made.{length-le_from_is_member}
 use Rattle.number_groups.specs.Numbers.{is_among}
 use Rattle.trace_events.specs.Event as law
-use Rattle.trace_values.specs.View.{link_view}
-use Rattle.trace_values.specs.declared.event.Link.{Link}
+use Rattle.trace_events.specs.View.{link_view}
+use Rattle.trace_events.specs.declared.event.Link.{Link}
 use Rattle.state_tables.specs.EndedLinks.{views}
 use Rattle.state_tables.specs.ConsumerLinks.{has_link}
 use Rattle.state_tables.specs.Copies.{has_room}

@@ -5,11 +5,11 @@ use Rattle.capture_form.specs.Rules.{RuleSet}
 use Rattle.trace_events.specs.Said.{in_begin, out_begin, is_in_end, is_out_end}
 use Rattle.trace_events.specs.Event.{Event, channel_of, is_on_channel}
 use Rattle.trace_events.specs.Session.{begins_in, begins_out, ends_in, ends_out, last_in_begin, has_unanswered_begin, owes_end, awaits_end, is_unended}
-use Rattle.trace_clauses.specs.Clauses.{first_broken}
+use Rattle.trace_events.specs.Clauses.{first_broken}
 use Rattle.trace_events.proofs.Judged.{AreJudged}
 use Rattle.state_tables.specs.Unanswered.{nothing, is_nothing, begin_to_answer, unanswered_at, begin_next, owes_end_next, awaits_end_next, unanswered_next}
 use Rattle.state_tables.specs.declared.unanswered.Unanswered.{Unanswered}
-use Rattle.trace_clauses.proofs.EndedSessions.{ended-was_unended}
+use Rattle.trace_events.proofs.EndedSessions.{ended-was_unended}
 
 abbrev made : Option Begin → Bool → Bool → Unanswered
 made begin owes awaits = record { begin = begin; owes_end = owes; awaits_end = awaits }

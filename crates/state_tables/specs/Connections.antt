@@ -5,7 +5,7 @@ use Rattle.number_runs.specs.Runs.{value_in}
 use Rattle.flow_counts.specs.declared.profile.TheConstants.{MIN_MAX_FRAME_SIZE}
 use Rattle.capture_form.specs.declared.records.Record.{Record}
 use Rattle.capture_form.specs.Rules.{RuleSet}
-use Rattle.trace_clauses.specs.Clauses.{first_broken}
+use Rattle.trace_events.specs.Clauses.{first_broken}
 use Rattle.trace_events.specs.History.{judge, history}
 use Rattle.trace_events.specs.Words.{is_number}
 use Rattle.trace_events.specs.Event.{Event, is_opened, is_lost, is_broken, is_out, channel_of}

@@ -9,8 +9,8 @@ use Rattle.trace_events.specs.Connection.{is_final}
 use Rattle.trace_events.specs.Ends.{ends_link}
 use Rattle.trace_events.specs.Link.{IsLiveLink}
 use Rattle.trace_events.specs.Said.{is_in_end, is_out_end, in_detach, out_attach, out_begin, out_detach}
-use Rattle.trace_values.specs.View.{Events, link_view}
-use Rattle.trace_values.specs.declared.event.Link.{Link}
+use Rattle.trace_events.specs.View.{Events, link_view}
+use Rattle.trace_events.specs.declared.event.Link.{Link}
 use Rattle.state_tables.specs.Links.{attaches_out, detaches_in, detaches_out, handle_of, link_of}
 use Rattle.state_tables.specs.LinkTables.{standing_of, standing_on}
 use Rattle.state_tables.specs.declared.handles.Handles.{Handles}

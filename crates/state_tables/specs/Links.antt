@@ -11,7 +11,7 @@ use Rattle.trace_events.specs.Session.{live_session}
 use Rattle.trace_events.specs.Link as law
 use Rattle.trace_events.specs.Link.{first_count, session_link, unanswered_attach}
 use Rattle.trace_events.specs.Credit.{link_event}
-use Rattle.trace_clauses.specs.LinkClause.{Asking, asked_by}
+use Rattle.trace_events.specs.LinkClause.{Asking, asked_by}
 use Rattle.state_counts.specs.LinkCounts.{link_counts, moved, named_handle, unmoved}
 use Rattle.state_counts.specs.declared.link_counts.LinkCounts.{LinkCounts}
 

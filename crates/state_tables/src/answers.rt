@@ -8,7 +8,7 @@ ghost use Rattle.trace_events.specs.Session.{IsLiveOn};
 ghost use Rattle.trace_events.specs.Outgoing.{next_delivery_id};
 ghost use Rattle.trace_events.specs.Window as windows;
 ghost use Rattle.state_tables.specs.Connections.{AreKept};
-ghost use Rattle.trace_values.specs.View.{Events};
+ghost use Rattle.trace_events.specs.View.{Events};
 
 use crate::connections::Connections;
 use amqp_perf::Begin;

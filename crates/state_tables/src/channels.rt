@@ -6,14 +6,14 @@ ghost use Rattle.indexmap.specs.IndexMap.{get};
 ghost use Rattle.state_tables.specs.Entries.{capped, entries_of_channels};
 ghost use Rattle.state_tables.specs.Links.{nothing, says_of_handle, standing_next};
 ghost use Rattle.state_tables.specs.LinkTables.{AreEmpty, AreMoved, AreMovedOn, AreSame, standing_of};
-ghost use Rattle.trace_values.specs.View.{event_view};
+ghost use Rattle.trace_events.specs.View.{event_view};
 
 use crate::ended_links::ends_channel;
 use crate::handle::Handle;
 use crate::handles::{Handles, handle_of};
 use number_map::NumberMap;
 use std::alloc::{AllocError, Global};
-use trace_values::Event;
+use trace_events::Event;
 
 /// The channels of a connection on which something stands of a handle.
 #[doc(hidden)]

@@ -5,7 +5,7 @@ ghost use Rattle.std.specs.Prelude.{◌≡◌, ℕ, None, true, IsTrue, OnOk, On
 ghost use Rattle.state_tables.specs.Connections.{IsBare, IsFull, IsSame, Takes, TakesOn, fresh, seen_next, session_on, unanswered_on};
 ghost use Rattle.state_tables.specs.Entries.{capped, entries_of_connection};
 ghost use Rattle.state_counts.specs.Sessions.{opens_or_ends};
-ghost use Rattle.trace_values.specs.View.{event_view};
+ghost use Rattle.trace_events.specs.View.{event_view};
 
 use crate::on_channels::OnChannels;
 use crate::unanswered::Unanswered;
@@ -13,7 +13,7 @@ use flow_counts::{MAX_FRAME_SIZE, MIN_MAX_FRAME_SIZE};
 use number_runs::RunValue;
 use state_counts::{CountedSession, opens_or_ends};
 use std::alloc::{AllocError, Global};
-use trace_values::Event;
+use trace_events::Event;
 
 /// What a connection has come to.
 #[derive(Clone, Copy, Debug, PartialEq, Eq)]

@@ -12,7 +12,7 @@ ghost use Rattle.state_tables.specs.Connections.{AreKept, AreSame, AreSeen, HasN
 ghost use Rattle.state_tables.specs.Entries.{capped, entries_of_connections};
 ghost use Rattle.state_counts.specs.Sessions.{session_at};
 ghost use Rattle.state_tables.specs.Unanswered.{unanswered_at};
-ghost use Rattle.trace_values.specs.View.{Events, event_view};
+ghost use Rattle.trace_events.specs.View.{Events, event_view};
 
 use crate::connection::{Connection, ConnectionSummary};
 use crate::unanswered::Unanswered;
@@ -20,7 +20,7 @@ use number_map::NumberMap;
 use number_runs::{NumberRuns, RunValue};
 use state_counts::CountedSession;
 use std::alloc::{AllocError, Global};
-use trace_values::Event;
+use trace_events::Event;
 
 /// The connections of which a record stands.
 pub struct Connections {

@@ -7,12 +7,12 @@ ghost use Rattle.trace_events.specs.History.{history, judge};
 ghost use Rattle.state_tables.specs.EndedLinks.{AreEnded, views};
 ghost use Rattle.state_tables.specs.ConsumerLinks.{AreConsumerLinks, AreSameLinks, link_in, with_opened, without};
 ghost use Rattle.state_tables.specs.Consumers.{opens_consumer};
-ghost use Rattle.trace_values.specs.View.{event_view, link_view};
+ghost use Rattle.trace_events.specs.View.{event_view, link_view};
 
 use crate::HeldLink;
 use number_map::NumberMap;
 use std::alloc::{AllocError, Global};
-use trace_values::{Event, Link};
+use trace_events::{Event, Link};
 
 /// The live links of consumers, by their numbers, each with an address of its own.
 pub struct ConsumerLinks {

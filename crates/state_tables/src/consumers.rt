@@ -7,12 +7,12 @@ ghost use Rattle.trace_events.specs.Address as law;
 ghost use Rattle.trace_events.specs.History.{history, judge};
 ghost use Rattle.state_tables.specs.EndedLinks.{AreEnded, views};
 ghost use Rattle.state_tables.specs.Consumers.{AreConsumers, AreSame, has_link_of, is_served, numbers_at, opens_consumer, opens_for, stands};
-ghost use Rattle.trace_values.specs.View.{event_view};
+ghost use Rattle.trace_events.specs.View.{event_view};
 
 use crate::addresses::Addresses;
 use number_groups::OctetGroups;
 use std::alloc::{AllocError, Global};
-use trace_values::{Event, Link};
+use trace_events::{Event, Link};
 
 /// By address the numbers of the live links of its consumers.
 pub struct Consumers {

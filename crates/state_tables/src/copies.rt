@@ -12,7 +12,7 @@ ghost use Rattle.trace_events.specs.Incoming as received;
 ghost use Rattle.trace_events.specs.Incoming.{incoming_at};
 ghost use Rattle.trace_events.specs.Link.{IsLiveLink};
 ghost use Rattle.trace_events.specs.Words.{is_some_and};
-ghost use Rattle.trace_values.specs.View.{event_view, incoming_view, link_view};
+ghost use Rattle.trace_events.specs.View.{event_view, incoming_view, link_view};
 ghost use Rattle.state_tables.specs.Connections.{IsLawfulNext};
 ghost use Rattle.state_tables.specs.EndedLinks.{AreEnded, views};
 ghost use Rattle.state_tables.specs.Addressed.{IsAddressed};
@@ -23,7 +23,7 @@ use capture_form::RuleSet;
 use number_groups::Groups;
 use pairing_cert::Note;
 use std::alloc::{AllocError, Global};
-use trace_values::{Event, Incoming, Link, has_multicast};
+use trace_events::{Event, Incoming, Link, has_multicast};
 
 /// A live link of a consumer of the address, with its credit.
 #[derive(Clone, Copy)]

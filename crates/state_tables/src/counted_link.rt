@@ -2,13 +2,13 @@
 
 ghost use Rattle.std.specs.Prelude.{◌≡◌, IfOk};
 ghost use Rattle.state_tables.specs.Links.{begun, counted_next};
-ghost use Rattle.trace_values.specs.View.{event_view, link_view};
+ghost use Rattle.trace_events.specs.View.{event_view, link_view};
 
 use crate::held_link::HeldLink;
 use state_counts::LinkCounts;
 use std::alloc::{AllocError, Global};
 use std::marker::Model;
-use trace_values::{Event, Link};
+use trace_events::{Event, Link};
 
 /// A live link with its counts.
 #[doc(hidden)]

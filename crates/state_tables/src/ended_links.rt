@@ -10,14 +10,14 @@ ghost use Rattle.trace_events.specs.History.{history, judge};
 ghost use Rattle.state_tables.specs.EndedLinks.{AreEnded, IsEndedOf, IsEndedOn, ends_channel, ends_named, link_named, may_end, links_of, links_on, views};
 ghost use Rattle.state_tables.specs.declared.handles.Handles as declared;
 ghost use Rattle.state_tables.specs.LinkTables.{AreLinked};
-ghost use Rattle.trace_values.specs.View.{event_view, link_view};
+ghost use Rattle.trace_events.specs.View.{event_view, link_view};
 
 use crate::channels::Channels;
 use crate::handles::{Handles, handle_of};
 use crate::links::Links;
 use amqp_perf::Performative;
 use std::alloc::{AllocError, Global};
-use trace_values::{Body, Event, Link, Moment};
+use trace_events::{Body, Event, Link, Moment};
 
 /// A session of the event's channel ends with it, or another begins there.
 #[inline(always)]

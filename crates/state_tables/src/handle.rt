@@ -5,14 +5,14 @@ ghost use Rattle.state_tables.specs.Entries.{entries_of_handle};
 ghost use Rattle.state_counts.specs.LinkCounts as counting;
 ghost use Rattle.state_tables.specs.Links as law;
 ghost use Rattle.state_tables.specs.Links.{asked_in, asked_next, awaits_next, begun, link_next, nothing, owes_next, standing_next, undetached_next};
-ghost use Rattle.trace_values.specs.View.{asking_view, event_view, link_view};
+ghost use Rattle.trace_events.specs.View.{asking_view, event_view, link_view};
 
 use crate::counted_link::CountedLink;
 use crate::held_attach::HeldAttach;
 use state_counts::LinkCounts;
 use std::alloc::{AllocError, Global};
 use std::marker::Model;
-use trace_values::{Asking, Event, Link, handle_in};
+use trace_events::{Asking, Event, Link, handle_in};
 
 /// What stands of a handle.
 #[doc(hidden)]

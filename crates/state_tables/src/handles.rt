@@ -7,13 +7,13 @@ ghost use Rattle.std.specs.Option.{option_copied};
 ghost use Rattle.state_tables.specs.Entries.{capped, entries_of_session};
 ghost use Rattle.state_tables.specs.Links.{handle_about, handle_of, nothing, standing_next};
 ghost use Rattle.state_tables.specs.LinkTables.{IsEmpty, IsMoved, IsSame, standing_on};
-ghost use Rattle.trace_values.specs.View.{event_view};
+ghost use Rattle.trace_events.specs.View.{event_view};
 
 use crate::handle::Handle;
 use amqp_perf::Performative;
 use number_map::NumberMap;
 use std::alloc::{AllocError, Global};
-use trace_values::{Event, handle_in};
+use trace_events::{Event, handle_in};
 
 /// The handles of a session of which something stands.
 #[doc(hidden)]

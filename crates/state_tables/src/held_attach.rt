@@ -4,13 +4,12 @@ ghost use Rattle.std.specs.Prelude.{◌≡◌, IfOk};
 ghost use Rattle.amqp_perf.specs.View.{attach_fields};
 ghost use Rattle.state_tables.specs.HeldAddress.{asked_octets};
 ghost use Rattle.state_tables.specs.Links.{asks};
-ghost use Rattle.trace_values.specs.View.{address_view, asking_view, event_view};
+ghost use Rattle.trace_events.specs.View.{address_view, asking_view, event_view};
 
 use amqp_perf::{Attach, ReceiverSettleMode, Role, SenderSettleMode};
 use std::alloc::{AllocError, Global};
 use std::marker::Model;
-use trace_events::Fault;
-use trace_values::{AskedAddress, Asking, Event};
+use trace_events::{AskedAddress, Asking, Event, Fault};
 
 /// The address for which an attach asks.
 #[doc(hidden)]

@@ -2,13 +2,12 @@
 
 ghost use Rattle.std.specs.Prelude.{◌≡◌, IfOk};
 ghost use Rattle.state_tables.specs.HeldViews.{held_link_view};
-ghost use Rattle.trace_values.specs.View.{link_view};
+ghost use Rattle.trace_events.specs.View.{link_view};
 
 use crate::own_octets::OwnOctets;
 use amqp_perf::Role;
 use std::alloc::{AllocError, Global};
-use trace_events::Session;
-use trace_values::Link;
+use trace_events::{Link, Session};
 
 /// A link with an address of its own.
 #[doc(hidden)]

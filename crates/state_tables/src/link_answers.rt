@@ -1,20 +1,19 @@
 //! Answers to questions about the past, as far as links and handles go: each as the questions of `trace_judge` ask it.
 
 ghost use Rattle.std.specs.Prelude.{◌≡◌, Some, is_some, option_map, true};
-ghost use Rattle.trace_clauses.specs.LinkClause as attaches;
+ghost use Rattle.trace_events.specs.LinkClause as attaches;
 ghost use Rattle.trace_events.specs.Credit as credits;
 ghost use Rattle.trace_events.specs.Link as links;
 ghost use Rattle.trace_events.specs.Link.{IsLiveLink};
 ghost use Rattle.trace_events.specs.Session.{IsLiveOn};
 ghost use Rattle.state_tables.specs.LinkTables.{AreLinked};
 ghost use Rattle.state_counts.specs.LinkCounts.{link_counts};
-ghost use Rattle.trace_values.specs.Answering.{their_first_count};
-ghost use Rattle.trace_values.specs.View.{Events, asking_view, link_view};
+ghost use Rattle.trace_events.specs.Answering.{their_first_count};
+ghost use Rattle.trace_events.specs.View.{Events, asking_view, link_view};
 
 use crate::links::Links;
 use state_counts::LinkCounts;
-use trace_events::Session;
-use trace_values::{Asking, Link};
+use trace_events::{Asking, Link, Session};
 
 impl Links {
     /// The link that lives on the handle of a live session. `None` where none does.

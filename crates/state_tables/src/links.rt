@@ -9,13 +9,13 @@ ghost use Rattle.trace_events.specs.History.{history, judge};
 ghost use Rattle.state_tables.specs.Entries.{capped, entries_of_links};
 ghost use Rattle.state_tables.specs.Links.{nothing, says_of_handle};
 ghost use Rattle.state_tables.specs.LinkTables.{AreLinked, LinksMoved, LinksSame, standing_in};
-ghost use Rattle.trace_values.specs.View.{Events, event_view};
+ghost use Rattle.trace_events.specs.View.{Events, event_view};
 
 use crate::channels::{Channels, says_of_handle};
 use crate::handle::Handle;
 use number_map::NumberMap;
 use std::alloc::{AllocError, Global};
-use trace_values::Event;
+use trace_events::Event;
 
 /// The links of live sessions, with the counts of their credit, and what is still to be answered of their handles.
 pub struct Links {

@@ -7,13 +7,13 @@ ghost use Rattle.state_tables.specs.Connections.{AreFull, AreSameAmong, HasNone,
 ghost use Rattle.state_tables.specs.Entries.{capped, entries_among};
 ghost use Rattle.state_counts.specs.Sessions.{opens_or_ends};
 ghost use Rattle.state_tables.specs.Unanswered.{nothing};
-ghost use Rattle.trace_values.specs.View.{event_view};
+ghost use Rattle.trace_events.specs.View.{event_view};
 
 use crate::unanswered::Unanswered;
 use number_map::NumberMap;
 use state_counts::{CountedSession, opens_or_ends, session_after};
 use std::alloc::{AllocError, Global};
-use trace_values::Event;
+use trace_events::Event;
 
 /// The live sessions of a connection, and what is still to be answered on its channels; of a channel with neither there is no
 /// entry.

@@ -4,7 +4,7 @@ ghost use Rattle.std.specs.Prelude.{◌≡◌, List, [], None, IfOk, OnErr, filt
 ghost use Rattle.capture_form.specs.Rules.{RuleSet};
 ghost use Rattle.capture_form.specs.declared.records.Record.{Record};
 ghost use Rattle.trace_events.specs.History.{history};
-ghost use Rattle.trace_values.specs.View.{event_view};
+ghost use Rattle.trace_events.specs.View.{event_view};
 ghost use Rattle.state_tables.specs.LinkTables.{AreLinked};
 ghost use Rattle.state_tables.specs.ConsumerLinks.{AreConsumerLinks};
 ghost use Rattle.state_tables.specs.Consumers.{AreConsumers, numbers_at};
@@ -15,7 +15,7 @@ use crate::copies::{Receiver, copied};
 use crate::{ConsumerLinks, Consumers, Links};
 use capture_form::RuleSet;
 use std::alloc::{AllocError, Global};
-use trace_values::Event;
+use trace_events::Event;
 
 /// The live links of the address's consumers, with their credit, where the event completes a delivery that is for it, and it is
 /// of multicast; the tables have the records before the event. Of any other event none.

@@ -3,10 +3,10 @@
 ghost use Rattle.std.specs.Prelude.{◌≡◌};
 ghost use Rattle.state_tables.specs.Entries.{entries_unanswered};
 ghost use Rattle.state_tables.specs.Unanswered.{begin_next, awaits_end_next, is_nothing, nothing, unanswered_next};
-ghost use Rattle.trace_values.specs.View.{event_view};
+ghost use Rattle.trace_events.specs.View.{event_view};
 
 use amqp_perf::Begin;
-use trace_values::Event;
+use trace_events::Event;
 
 /// What of a channel is still to be answered, by the router or by its client.
 #[derive(Clone, Copy, Debug, PartialEq, Eq)]

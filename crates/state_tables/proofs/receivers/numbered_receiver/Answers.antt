@@ -1,7 +1,7 @@
 use Rattle.std.proofs.Common.{◌≡◌, ap, sym, ◌∙◌, ℕ, Option, Some, option_and_then, option_map, rules}
 use Rattle.trace_events.specs.History.{history}
 use Rattle.trace_events.proofs.Judged.{history-judged}
-use Rattle.trace_values.specs.View.{link_view}
+use Rattle.trace_events.specs.View.{link_view}
 use Rattle.state_tables.specs.ConsumerLinks.{consumer_at}
 use Rattle.state_tables.proofs.ConsumerLinkSteps.{consumer-lives}
 use Rattle.state_tables.specs.Receivers.{receiver_at, receiver_on}

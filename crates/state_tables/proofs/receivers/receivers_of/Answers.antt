@@ -3,7 +3,7 @@ use Rattle.std.proofs.lemmas.Result.{IfOk-weaker}
 use Rattle.trace_events.specs.Event.{Incoming}
 use Rattle.trace_events.specs.History.{history}
 use Rattle.trace_events.proofs.Judged.{history-judged}
-use Rattle.trace_values.specs.View.{event_view, incoming_view}
+use Rattle.trace_events.specs.View.{event_view, incoming_view}
 use Rattle.state_tables.specs.Consumers.{numbers_at}
 use Rattle.state_tables.specs.Copies.{AreReceiversOf, copied_by}
 use Rattle.state_tables.specs.declared.copies.Receiver.{Receiver}

@@ -1,4 +1,4 @@
-use Rattle.trace_values.specs.View.{event_view}
+use Rattle.trace_events.specs.View.{event_view}
 use Rattle.state_tables.proofs.EntrySteps.{taken-same}
 use Rattle.state_tables.proofs.connections.Connections.put.Goals as goal
 

@@ -1,5 +1,5 @@
 use Rattle.std.proofs.Common.{refl, ◌∙◌}
-use Rattle.trace_values.specs.View.{event_view}
+use Rattle.trace_events.specs.View.{event_view}
 use Rattle.state_tables.proofs.EntrySteps.{first-moved}
 use Rattle.state_tables.proofs.connections.Connections.put_first.Goals as goal
 

@@ -1,6 +1,6 @@
 use Rattle.trace_events.specs.History.{history}
 use Rattle.trace_events.proofs.Judged.{history-judged}
-use Rattle.trace_values.specs.View.{event_view}
+use Rattle.trace_events.specs.View.{event_view}
 use Rattle.state_tables.proofs.KeptSteps.{taken-seen, taken-kept}
 use Rattle.state_tables.proofs.connections.Connections.take.Goals as goal
 

@@ -1,5 +1,5 @@
 use Rattle.std.proofs.Common.{◌&&◌, ◌==◌, bytes_eq}
-use Rattle.trace_values.specs.View.{link_view}
+use Rattle.trace_events.specs.View.{link_view}
 use Rattle.trace_events.specs.Event.{Link}
 use Rattle.state_tables.specs.Consumers.{stands}
 use Rattle.state_tables.proofs.Leaving.{one-leaves}

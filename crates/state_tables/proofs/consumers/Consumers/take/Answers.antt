@@ -1,7 +1,7 @@
 use Rattle.std.proofs.Common.{ap, ◌∙◌, ◌&&◌, ◌||◌, not}
 use Rattle.trace_events.specs.History.{history}
 use Rattle.trace_events.proofs.Judged.{history-judged}
-use Rattle.trace_values.specs.View.{event_view}
+use Rattle.trace_events.specs.View.{event_view}
 use Rattle.state_tables.specs.EndedLinks.{views}
 use Rattle.state_tables.specs.Consumers.{has_link_of, opens_for}
 use Rattle.state_tables.proofs.ConsumerSteps.{consumer-next}

@@ -4,7 +4,7 @@ use Rattle.std.proofs.lemmas.Result.{IfOk-weaker}
 use Rattle.trace_events.specs.History.{history}
 use Rattle.trace_events.specs.Words.{is_some_and}
 use Rattle.trace_events.proofs.Judged.{AreJudged, history-judged}
-use Rattle.trace_values.specs.View.{event_view, incoming_view}
+use Rattle.trace_events.specs.View.{event_view, incoming_view}
 use Rattle.state_tables.specs.Copies.{AreCounted, copied_by, copies_at, has_room}
 use Rattle.state_tables.proofs.CopySteps.{comes-room, copies-counted}
 use Rattle.state_tables.proofs.copies.Copies.due_to.Goals as goal

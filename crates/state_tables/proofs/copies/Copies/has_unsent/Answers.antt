@@ -1,7 +1,7 @@
 use Rattle.std.proofs.Common.{sym, ◌∙◌}
 use Rattle.trace_events.specs.History.{history}
 use Rattle.trace_events.proofs.Judged.{history-judged}
-use Rattle.trace_values.specs.View.{link_view}
+use Rattle.trace_events.specs.View.{link_view}
 use Rattle.state_tables.proofs.CopiesKnown.{has-unsent}
 use Rattle.state_tables.proofs.copies.Copies.has_unsent.Goals as goal
 

@@ -1,7 +1,7 @@
 use Rattle.std.proofs.Common.{◌∙◌}
 use Rattle.trace_events.specs.History.{history}
 use Rattle.trace_events.proofs.Judged.{history-judged}
-use Rattle.trace_values.specs.View.{incoming_view, link_view}
+use Rattle.trace_events.specs.View.{incoming_view, link_view}
 use Rattle.state_tables.proofs.CopiesKnown.{unsent-is}
 use Rattle.state_tables.proofs.copies.Copies.is_unsent.Goals as goal
 

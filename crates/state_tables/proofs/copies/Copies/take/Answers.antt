@@ -1,7 +1,7 @@
 use Rattle.std.proofs.Common.{ap, ◌∙◌, ◌&&◌, ◌||◌, ◌∷◌, ℕ, not, length}
 use Rattle.trace_events.specs.History.{history}
 use Rattle.trace_events.proofs.Judged.{AreJudged, history-judged}
-use Rattle.trace_values.specs.View.{event_view}
+use Rattle.trace_events.specs.View.{event_view}
 use Rattle.state_tables.specs.EndedLinks.{views}
 use Rattle.state_tables.specs.ConsumerLinks.{has_link}
 use Rattle.state_tables.specs.Copies.{AreCounted, comes_to, copies_at, names_at}
