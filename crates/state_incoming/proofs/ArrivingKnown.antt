@@ -21,11 +21,11 @@ use Rattle.trace_events.proofs.LinkLives.{judged-stands}
 use Rattle.trace_events.proofs.SessionNumbers.{last_session-known}
 use Rattle.trace_events.proofs.Judged.{AreJudged}
 use Rattle.trace_events.proofs.Links.{passing}
-use Rattle.trace_clauses.proofs.IncomingProgress.{judged-kept, progress-kept, progress-link}
-use Rattle.trace_clauses.proofs.Incomings.{judged-sound}
-use Rattle.trace_clauses.proofs.LinkEnds.{is_live-next}
-use Rattle.trace_clauses.proofs.Parts.{IsKept, IsPart, delivery_kept, judged_is_part}
-use Rattle.trace_clauses.proofs.PartsGoOn.{judged-whole}
+use Rattle.trace_events.proofs.IncomingProgress.{judged-kept, progress-kept, progress-link}
+use Rattle.trace_events.proofs.Incomings.{judged-sound}
+use Rattle.trace_events.proofs.LinkEnds.{is_live-next}
+use Rattle.trace_events.proofs.Parts.{IsKept, IsPart, delivery_kept, judged_is_part}
+use Rattle.trace_events.proofs.PartsGoOn.{judged-whole}
 use Rattle.state_incoming.specs.Held.{Held, held, held_at, is_held, fate_of, says_arriving}
 use Rattle.state_incoming.proofs.FateSteps.{arriving-fate}
 use Rattle.state_incoming.proofs.HeldAnswers.{held-of, held-complete}

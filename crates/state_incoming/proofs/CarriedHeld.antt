@@ -10,16 +10,16 @@ use Rattle.trace_events.specs.Settling.{is_closed}
 use Rattle.trace_events.specs.Waiting.{is_gone}
 use Rattle.trace_events.proofs.Along.{and_then_some}
 use Rattle.trace_events.proofs.Judged.{AreJudged}
-use Rattle.trace_clauses.specs.Clauses.{first_broken}
-use Rattle.trace_clauses.specs.TransferClause.{carried_before}
-use Rattle.trace_clauses.proofs.BegunDeliveries.{found-begun}
-use Rattle.trace_clauses.proofs.Pairs.{paired-not_gone}
+use Rattle.trace_events.specs.Clauses.{first_broken}
+use Rattle.trace_events.specs.TransferClause.{carried_before}
+use Rattle.trace_events.proofs.BegunDeliveries.{found-begun}
+use Rattle.trace_events.proofs.Pairs.{paired-not_gone}
 use Rattle.state_tables.specs.LetGo.{is_let_go}
 use Rattle.state_incoming.specs.Held.{Held, held, held_at, is_held}
 use Rattle.state_incoming.specs.HeldTables.{AreHeld, AreOver, held_in}
 use Rattle.state_incoming.specs.EntryAnswers.{Knows, delivery_in, is_shut}
 use Rattle.state_incoming.specs.declared.deliveries.Deliveries.{Deliveries}
-use Rattle.trace_clauses.proofs.IdsApart.{found_any}
+use Rattle.trace_events.proofs.IdsApart.{found_any}
 use Rattle.state_incoming.proofs.GroupAnswers.{find-some}
 use Rattle.state_incoming.proofs.HeldAnswers.{held-of}
 use Rattle.state_incoming.proofs.OverKnown.{over-closed, table-there, table-none}

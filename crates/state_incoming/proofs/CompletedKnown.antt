@@ -21,10 +21,10 @@ use Rattle.trace_events.specs.Settling.{is_closed}
 use Rattle.trace_events.specs.Waiting.{is_gone}
 use Rattle.trace_events.proofs.IncomingSteps.{payload-more}
 use Rattle.trace_events.proofs.Judged.{AreJudged, judged-number}
-use Rattle.trace_clauses.proofs.IncomingProgress.{judged-kept, progress-kept}
-use Rattle.trace_clauses.proofs.Parts.{EachPart, IsKept, IsPart, judged_is_part, part_allowed}
-use Rattle.trace_clauses.proofs.PartsGoOn.{MayGoOn, part-goes_on, unbegun-payload}
-use Rattle.trace_clauses.proofs.Undecided.{all_before}
+use Rattle.trace_events.proofs.IncomingProgress.{judged-kept, progress-kept}
+use Rattle.trace_events.proofs.Parts.{EachPart, IsKept, IsPart, judged_is_part, part_allowed}
+use Rattle.trace_events.proofs.PartsGoOn.{MayGoOn, part-goes_on, unbegun-payload}
+use Rattle.trace_events.proofs.Undecided.{all_before}
 use Rattle.state_tables.specs.Addressed.{IsAddressed}
 use Rattle.state_incoming.specs.Held.{held, is_held, held_at}
 use Rattle.state_incoming.specs.HeldTables.{AreHeld, AreOver, held_in}

@@ -19,9 +19,9 @@ use Rattle.trace_events.proofs.LinkLives.{judged-stands}
 use Rattle.trace_events.proofs.LinkNumbers.{own_link-number}
 use Rattle.trace_events.proofs.OutgoingSteps.{names_on}
 use Rattle.trace_events.proofs.SessionNumbers.{last_session-known}
-use Rattle.trace_clauses.proofs.AwaitedSteps.{due_below}
-use Rattle.trace_clauses.proofs.LinkEnds.{is_live-next, lives-live}
-use Rattle.trace_clauses.proofs.WaitingQueue.{completed_once}
+use Rattle.trace_events.proofs.AwaitedSteps.{due_below}
+use Rattle.trace_events.proofs.LinkEnds.{is_live-next, lives-live}
+use Rattle.trace_events.proofs.WaitingQueue.{completed_once}
 use Rattle.state_incoming.specs.LetGo.{HasAllCopies}
 
 last_of : (over : Bool) (last : Option Session) (s : Session) → (if over then None else last) ≡ Some s → last ≡ Some s

@@ -11,10 +11,10 @@ use Rattle.trace_events.specs.Link.{is_consumer, is_live, own_link, links, link_
 use Rattle.trace_events.specs.Waiting.{always_had_consumer, is_unpaired, is_waiting, is_undecided}
 use Rattle.trace_events.proofs.Judged.{AreJudged}
 use Rattle.trace_events.proofs.LinkNumbers.{links-found}
-use Rattle.trace_clauses.proofs.IncomingProgress.{judged-kept}
-use Rattle.trace_clauses.proofs.LinkEnds.{is_live-next, lives-live}
-use Rattle.trace_clauses.proofs.Parts.{IsKept, delivery_kept}
-use Rattle.trace_clauses.proofs.WaitingQueue.{contains_none, contains_cases}
+use Rattle.trace_events.proofs.IncomingProgress.{judged-kept}
+use Rattle.trace_events.proofs.LinkEnds.{is_live-next, lives-live}
+use Rattle.trace_events.proofs.Parts.{IsKept, delivery_kept}
+use Rattle.trace_events.proofs.WaitingQueue.{contains_none, contains_cases}
 use Rattle.state_incoming.specs.Held.{Held, held_at, says_waiting}
 use Rattle.state_incoming.specs.HeldTouched.{EndWith}
 use Rattle.state_incoming.specs.Touched.{AreEnded}

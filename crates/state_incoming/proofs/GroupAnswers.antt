@@ -10,9 +10,9 @@ use Rattle.trace_events.specs.Incoming.{address_of, incoming_at, incoming_delive
 use Rattle.trace_events.specs.History.{IsHistory}
 use Rattle.trace_events.proofs.Along.{some_passes}
 use Rattle.trace_events.proofs.Judged.{AreJudged, history-judged}
-use Rattle.trace_clauses.proofs.IdsApart.{found_any, undecided_one}
-use Rattle.trace_clauses.proofs.IncomingProgress.{judged-kept}
-use Rattle.trace_clauses.proofs.Parts.{IsKept, each_delivery, found_holds}
+use Rattle.trace_events.proofs.IdsApart.{found_any, undecided_one}
+use Rattle.trace_events.proofs.IncomingProgress.{judged-kept}
+use Rattle.trace_events.proofs.Parts.{IsKept, each_delivery, found_holds}
 use Rattle.state_incoming.specs.Held.{Held, held, is_held, held_at}
 use Rattle.state_incoming.specs.Grouped.{is_for}
 use Rattle.state_incoming.proofs.HeldAnswers.{held-of, held-address}

@@ -13,8 +13,8 @@ use Rattle.trace_events.specs.Frame.{frame_read}
 use Rattle.trace_events.specs.Event.{Event, Incoming}
 use Rattle.trace_events.specs.History.{history, judge}
 use Rattle.trace_events.specs.Outgoing.{carried_number}
-use Rattle.trace_clauses.specs.Written.{spoken_octets}
-use Rattle.trace_clauses.proofs.Made.{carry, disposes, first, from, from_with, gives, hi, next, pair, q, released, sent, tell, to, with_more}
+use Rattle.trace_events.specs.Written.{spoken_octets}
+use Rattle.trace_events.proofs.Made.{carry, disposes, first, from, from_with, gives, hi, next, pair, q, released, sent, tell, to, with_more}
 use Rattle.state_incoming.specs.Held.{Held, unbegun}
 use Rattle.state_incoming.specs.Grouped.{has_id, is_for, is_of_link, is_of_session, marks_of, unmarked}
 use Rattle.state_incoming.specs.Touched.{part_number, settled_session}

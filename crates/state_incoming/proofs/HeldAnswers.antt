@@ -10,9 +10,9 @@ use Rattle.trace_events.specs.Incoming.{address_of, payload, completion, complet
 use Rattle.trace_events.specs.Outgoing.{is_paired}
 use Rattle.trace_events.specs.Waiting.{is_of_multicast, always_had_consumer, is_waiting, is_gone, is_undecided}
 use Rattle.trace_events.specs.Settling.{is_closed}
-use Rattle.trace_clauses.specs.Clauses.{first_broken}
-use Rattle.trace_clauses.specs.Outcome.{may_be_told}
-use Rattle.trace_clauses.specs.TransferClause.{to_carry}
+use Rattle.trace_events.specs.Clauses.{first_broken}
+use Rattle.trace_events.specs.Outcome.{may_be_told}
+use Rattle.trace_events.specs.TransferClause.{to_carry}
 use Rattle.trace_events.proofs.Judged.{AreJudged}
 use Rattle.state_incoming.specs.Held.{says_arriving, says_waiting, says_gone, says_paired, Held, held, is_held, held_at, may_go, may_tell, comes_before}
 use Rattle.state_incoming.proofs.FateSteps.{fate_by, complete-fate, waiting-fate, gone-fate, paired-fate}

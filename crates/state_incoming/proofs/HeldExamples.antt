@@ -20,9 +20,9 @@ use Rattle.trace_events.specs.Words.{is_some_and}
 use Rattle.trace_events.specs.Address.{has_consumer}
 use Rattle.trace_events.specs.Incoming.{incoming_at, message_address, aborts}
 use Rattle.trace_events.specs.History.{history, judge}
-use Rattle.trace_clauses.specs.Written.{spoken_octets}
-use Rattle.trace_clauses.proofs.Captures.{unmarked}
-use Rattle.trace_clauses.proofs.Made.{from, from_with, to, join, consumer, terminus, bare, shows, tell, first, next, with_more, as_settled, disposes, accepted, released, detach_of, q, hi, pair, sent, whole, carried, consumer_leaves, gives_more, multicast, producer_settles, two_sent_by}
+use Rattle.trace_events.specs.Written.{spoken_octets}
+use Rattle.trace_events.proofs.Captures.{unmarked}
+use Rattle.trace_events.proofs.Made.{from, from_with, to, join, consumer, terminus, bare, shows, tell, first, next, with_more, as_settled, disposes, accepted, released, detach_of, q, hi, pair, sent, whole, carried, consumer_leaves, gives_more, multicast, producer_settles, two_sent_by}
 use Rattle.state_incoming.specs.Held.{Held, held_at, held_next, held_begun, begins_number, held_behind, stands_open, may_go, may_tell, comes_before}
 use Rattle.state_incoming.specs.HeldTouched.{is_touched, is_kept}
 use Rattle.state_incoming.specs.declared.held.Fate.{Fate}

@@ -10,15 +10,15 @@ use Rattle.trace_events.specs.Incoming.{payload, completion, completed_before, i
 use Rattle.trace_events.specs.Outgoing.{is_paired}
 use Rattle.trace_events.specs.Settling.{is_closed}
 use Rattle.trace_events.specs.Waiting.{is_of_multicast, is_waiting, is_gone, is_undecided}
-use Rattle.trace_clauses.specs.Clauses.{first_broken}
-use Rattle.trace_clauses.specs.Outcome.{may_be_told}
-use Rattle.trace_clauses.specs.TransferClause.{to_carry}
+use Rattle.trace_events.specs.Clauses.{first_broken}
+use Rattle.trace_events.specs.Outcome.{may_be_told}
+use Rattle.trace_events.specs.TransferClause.{to_carry}
 use Rattle.pairing_cert.specs.declared.note.Note.TheVariants as notes
 use Rattle.capture_form.specs.declared.records.Record.{Record}
 use Rattle.trace_events.proofs.Judged.{AreJudged, judged-number, history-judged}
 use Rattle.trace_events.proofs.Links.{passing}
-use Rattle.trace_clauses.proofs.Incomings.{judged-part, judged-sound, at-step}
-use Rattle.trace_clauses.proofs.OneConsumer.{incoming_at-is}
+use Rattle.trace_events.proofs.Incomings.{judged-part, judged-sound, at-step}
+use Rattle.trace_events.proofs.OneConsumer.{incoming_at-is}
 use Rattle.state_tables.specs.Addressed.{IsAddressed}
 use Rattle.state_incoming.specs.Held.{IsEntry, Held, held, is_held, held_at, address_behind, held_next, held_on, unbegun, held_begun, is_begun_served, HeldFollows, HeldBegins}
 use Rattle.state_incoming.specs.Held.{says_arriving, says_waiting, says_gone, says_paired, may_go, may_tell, comes_before}

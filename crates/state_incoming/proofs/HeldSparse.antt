@@ -8,13 +8,13 @@ use Rattle.trace_events.specs.Link.{is_live}
 use Rattle.trace_events.specs.Waiting.{always_had_consumer, is_of_multicast}
 use Rattle.trace_events.specs.Outgoing.{is_paired}
 use Rattle.trace_events.proofs.Judged.{AreJudged}
-use Rattle.trace_clauses.specs.Clauses.{first_broken}
+use Rattle.trace_events.specs.Clauses.{first_broken}
 use Rattle.state_tables.specs.Addressed.{IsAddressed}
 use Rattle.state_incoming.specs.Held.{Held, held_at, address_behind, held_begun, is_begun_served, held_on, held_behind, begins_number, says_arriving, says_gone, stands_open}
 use Rattle.state_incoming.specs.HeldTouched.{is_touched, is_kept}
 use Rattle.state_incoming.proofs.FateSteps.{fate_by}
 use Rattle.state_incoming.proofs.HeldAnswers.{held-of}
-use Rattle.trace_clauses.proofs.PartsGoOn.{complete-whole}
+use Rattle.trace_events.proofs.PartsGoOn.{complete-whole}
 use Rattle.state_incoming.proofs.HeldSteps.{held-behind}
 use Rattle.state_incoming.proofs.HeldUntouched.{untouched}
 

@@ -15,23 +15,23 @@ use Rattle.trace_events.specs.Waiting.{is_of_multicast, always_had_consumer, is_
 use Rattle.trace_events.specs.Queue.{pairs}
 use Rattle.trace_events.specs.Settling.{is_closed}
 use Rattle.trace_events.specs.Work.{closes_incoming}
-use Rattle.trace_clauses.specs.Clauses.{first_broken}
+use Rattle.trace_events.specs.Clauses.{first_broken}
 use Rattle.trace_events.proofs.Along.{some_passes}
 use Rattle.trace_events.proofs.EveryStep.{completion-step, is_paired-step}
 use Rattle.trace_events.proofs.IncomingSteps.{address_of-same, incoming_at-begun, incoming_at-older, incoming_at-same}
 use Rattle.trace_events.proofs.Judged.{AreJudged, judged-number}
 use Rattle.trace_events.proofs.Links.{passing}
 use Rattle.trace_events.proofs.SettlingSteps.{is_closed-step}
-use Rattle.trace_clauses.proofs.BegunDeliveries.{begun-own, begun-carries, found-begun, kept-later}
-use Rattle.trace_clauses.proofs.ClausesMet.{lawful-past}
-use Rattle.trace_clauses.proofs.Decided.{told-known}
-use Rattle.trace_clauses.proofs.IncomingProgress.{judged-kept}
-use Rattle.trace_clauses.proofs.LinkEnds.{is_live-next}
-use Rattle.trace_clauses.proofs.OutcomesToTell.{carries_first}
-use Rattle.trace_clauses.proofs.Parts.{EachPart, IsKept, delivery_kept}
-use Rattle.trace_clauses.proofs.PartsGoOn.{MayGoOn, part-goes_on, unbegun-payload, incomplete-completion, unbegun-settled}
-use Rattle.trace_clauses.proofs.Undecided.{all_before}
-use Rattle.trace_clauses.proofs.WaitingQueue.{completed_once}
+use Rattle.trace_events.proofs.BegunDeliveries.{begun-own, begun-carries, found-begun, kept-later}
+use Rattle.trace_events.proofs.ClausesMet.{lawful-past}
+use Rattle.trace_events.proofs.Decided.{told-known}
+use Rattle.trace_events.proofs.IncomingProgress.{judged-kept}
+use Rattle.trace_events.proofs.LinkEnds.{is_live-next}
+use Rattle.trace_events.proofs.OutcomesToTell.{carries_first}
+use Rattle.trace_events.proofs.Parts.{EachPart, IsKept, delivery_kept}
+use Rattle.trace_events.proofs.PartsGoOn.{MayGoOn, part-goes_on, unbegun-payload, incomplete-completion, unbegun-settled}
+use Rattle.trace_events.proofs.Undecided.{all_before}
+use Rattle.trace_events.proofs.WaitingQueue.{completed_once}
 use Rattle.state_tables.specs.Addressed.{IsAddressed}
 use Rattle.state_incoming.specs.Held.{fate_of, fate_next, says_arriving, Held, held, is_held, held_at, address_behind, moved, stays_with, stays, held_next, held_on, first_address, unbegun, held_behind, undecided_next}
 use Rattle.state_incoming.specs.declared.held.Fate.{Fate}

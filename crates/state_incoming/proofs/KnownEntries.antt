@@ -7,7 +7,7 @@ use Rattle.trace_events.specs.Event.{Event, Incoming}
 use Rattle.trace_events.specs.Incoming.{address_of, payload, completed_before, is_complete, incoming_at, incoming_deliveries}
 use Rattle.trace_events.specs.Settling.{is_closed}
 use Rattle.trace_events.specs.Waiting.{is_gone}
-use Rattle.trace_clauses.specs.TransferClause.{to_carry}
+use Rattle.trace_events.specs.TransferClause.{to_carry}
 use Rattle.state_tables.specs.LetGo.{names_let_go}
 use Rattle.state_incoming.specs.Held.{Held, may_go}
 use Rattle.state_incoming.specs.HeldTables.{AreHeld, held_in}

@@ -16,10 +16,10 @@ use Rattle.trace_events.specs.Frame.{frame_read}
 use Rattle.trace_events.specs.History.{history}
 use Rattle.trace_events.specs.Incoming.{incoming_at}
 use Rattle.trace_events.specs.Link.{is_live, link_at}
-use Rattle.trace_clauses.specs.Written.{spoken_octets}
-use Rattle.trace_clauses.proofs.Captures.{outgoing_of, unmarked}
-use Rattle.trace_clauses.proofs.Made.{from, carry, first, with_more, as_settled, disposes, accepted, detach_of, hi, sent, sent_by, carried, finishes, accepts, tells, producer_settles, multicast}
-use Rattle.trace_clauses.proofs.Copies.{due, copy_to}
+use Rattle.trace_events.specs.Written.{spoken_octets}
+use Rattle.trace_events.proofs.Captures.{outgoing_of, unmarked}
+use Rattle.trace_events.proofs.Made.{from, carry, first, with_more, as_settled, disposes, accepted, detach_of, hi, sent, sent_by, carried, finishes, accepts, tells, producer_settles, multicast}
+use Rattle.trace_events.proofs.Copies.{due, copy_to}
 use Rattle.state_tables.specs.LetGo.{is_let_go, names_let_go}
 use Rattle.state_incoming.specs.Held.{held_at}
 use Rattle.state_incoming.specs.LetGo.{is_finished, is_spent}

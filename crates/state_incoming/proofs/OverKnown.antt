@@ -13,7 +13,7 @@ use Rattle.trace_events.specs.Settling.{is_closed}
 use Rattle.trace_events.specs.Waiting.{is_of_multicast, always_had_consumer, is_waiting, is_undecided}
 use Rattle.trace_events.specs.Work.{stands_unsettled}
 use Rattle.trace_events.proofs.Judged.{AreJudged}
-use Rattle.trace_clauses.proofs.OneConsumer.{incoming_at-is}
+use Rattle.trace_events.proofs.OneConsumer.{incoming_at-is}
 use Rattle.state_tables.specs.LetGo.{is_let_go, names_let_go}
 use Rattle.state_incoming.specs.Held.{Held, held_at, says_arriving, says_waiting, says_gone, says_paired, says_copied, stands_open}
 use Rattle.state_incoming.specs.HeldTables.{AreHeld, AreOver, held_in}

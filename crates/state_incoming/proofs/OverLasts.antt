@@ -18,15 +18,15 @@ use Rattle.trace_events.specs.Waiting.{is_of_multicast}
 use Rattle.trace_events.specs.Work.{keeps_unsettled, stands_unsettled}
 use Rattle.trace_events.proofs.Judged.{AreJudged}
 use Rattle.trace_events.proofs.SettlingSteps.{stands_unsettled-step}
-use Rattle.trace_clauses.specs.Clauses.{first_broken}
-use Rattle.trace_clauses.proofs.BegunDeliveries.{IsBegun, begun-linked, begun-live, judged-begun}
-use Rattle.trace_clauses.proofs.ClausesMet.{lawful-past}
-use Rattle.trace_clauses.proofs.IncomingProgress.{judged-kept}
-use Rattle.trace_clauses.proofs.LinkEnds.{is_live-next, lives-live}
-use Rattle.trace_clauses.proofs.OneConsumer.{carried-at}
-use Rattle.trace_clauses.proofs.Parts.{IsKept, delivery_kept}
-use Rattle.trace_clauses.proofs.VerdictSteps.{due_before, not_named_before}
-use Rattle.trace_clauses.proofs.WaitingQueue.{all_contained, contains_cases}
+use Rattle.trace_events.specs.Clauses.{first_broken}
+use Rattle.trace_events.proofs.BegunDeliveries.{IsBegun, begun-linked, begun-live, judged-begun}
+use Rattle.trace_events.proofs.ClausesMet.{lawful-past}
+use Rattle.trace_events.proofs.IncomingProgress.{judged-kept}
+use Rattle.trace_events.proofs.LinkEnds.{is_live-next, lives-live}
+use Rattle.trace_events.proofs.OneConsumer.{carried-at}
+use Rattle.trace_events.proofs.Parts.{IsKept, delivery_kept}
+use Rattle.trace_events.proofs.VerdictSteps.{due_before, not_named_before}
+use Rattle.trace_events.proofs.WaitingQueue.{all_contained, contains_cases}
 use Rattle.state_tables.specs.LetGo.{is_let_go, names_let_go}
 use Rattle.state_incoming.specs.Held.{Held, address_behind, closed_next, fate_next, held_at, moved, says_copied, says_paired, stays_with}
 use Rattle.state_incoming.specs.HeldTables.{AreHeld, AreOver, held_in}

@@ -9,7 +9,7 @@ use Rattle.trace_events.specs.Incoming.{incoming_begun}
 use Rattle.trace_events.specs.Address.{has_consumer}
 use Rattle.trace_events.proofs.Judged.{AreJudged, judged-number}
 use Rattle.trace_events.proofs.Links.{passing}
-use Rattle.trace_clauses.specs.Clauses.{first_broken}
+use Rattle.trace_events.specs.Clauses.{first_broken}
 use Rattle.state_tables.specs.Addressed.{IsAddressed}
 use Rattle.state_incoming.specs.Held.{Held, held_at, address_behind, held_begun, is_begun_served, held_next, held_on, held_behind, begins_number, moved, stays, unbegun}
 use Rattle.state_incoming.specs.HeldTouched.{is_touched}

@@ -9,8 +9,8 @@ use Rattle.capture_form.specs.declared.records.Record.{Record}
 use Rattle.capture_form.specs.Rules.{no_rules}
 use Rattle.trace_events.specs.Frame.{frame_read}
 use Rattle.trace_events.specs.History.{history}
-use Rattle.trace_clauses.specs.Written.{spoken_octets}
-use Rattle.trace_clauses.proofs.Made.{carry, detach_of, first, from, from_with, hi, pair, q, sent, with_more}
+use Rattle.trace_events.specs.Written.{spoken_octets}
+use Rattle.trace_events.proofs.Made.{carry, detach_of, first, from, from_with, hi, pair, q, sent, with_more}
 use Rattle.state_incoming.specs.WaitingCount.{waiting_count}
 
 unfoldable count_in : List Record → List ℕ → ℕ

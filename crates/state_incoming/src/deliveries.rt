@@ -9,7 +9,7 @@ ghost use Rattle.trace_events.specs.Address.{has_consumer};
 ghost use Rattle.trace_events.specs.History.{history};
 ghost use Rattle.trace_events.specs.Incoming.{incoming_begun};
 ghost use Rattle.trace_events.specs.Words.{is_some_and, or_else, where_passes};
-ghost use Rattle.trace_clauses.specs.Clauses.{first_broken};
+ghost use Rattle.trace_events.specs.Clauses.{first_broken};
 ghost use Rattle.state_tables.specs.Connections.{IsLawfulNext};
 ghost use Rattle.state_incoming.specs.Grouped.{AreGrouped};
 ghost use Rattle.state_tables.specs.Addressed.{IsAddressed};
@@ -18,7 +18,7 @@ ghost use Rattle.state_incoming.specs.HeldTables.{AreMovedBy, BeginsOrTouches, I
 ghost use Rattle.state_incoming.specs.HeldTouched.{EndWith};
 ghost use Rattle.state_incoming.specs.HeldViews.{held_view};
 ghost use Rattle.state_incoming.specs.LetGo.{IsOver, is_spent};
-ghost use Rattle.trace_values.specs.View.{event_view, link_view};
+ghost use Rattle.trace_events.specs.View.{event_view, link_view};
 
 use crate::groups::{GroupMarks, HeldGroups};
 use crate::held::{HeldDelivery, first_address};
@@ -28,7 +28,7 @@ use number_groups::NumberSet;
 use number_map::NumberMap;
 use state_tables::Addresses;
 use std::alloc::{AllocError, Global};
-use trace_values::{Event, Link};
+use trace_events::{Event, Link};
 
 /// The deliveries from clients that are kept. Of those that were let go only proofs know.
 pub struct Deliveries {

@@ -2,11 +2,11 @@
 
 ghost use Rattle.std.specs.Prelude.{◌≡◌, ◌+◌, List, true, false, Some, IfSome, bytes_eq, length, nat_lt, option_map};
 ghost use Rattle.capture_form.specs.Rules.{RuleSet};
-ghost use Rattle.trace_clauses.specs.TransferClause as transfers;
+ghost use Rattle.trace_events.specs.TransferClause as transfers;
 ghost use Rattle.trace_events.specs.Incoming as received;
 ghost use Rattle.trace_events.specs.Settling as settling;
 ghost use Rattle.trace_events.specs.Waiting as waiting;
-ghost use Rattle.trace_values.specs.View.{Events, incoming_view};
+ghost use Rattle.trace_events.specs.View.{Events, incoming_view};
 ghost use Rattle.state_tables.specs.LetGo.{names_let_go};
 ghost use Rattle.state_incoming.specs.EntryAnswers as entries;
 ghost use Rattle.state_incoming.specs.EntryAnswers.{Knows, delivery_in, has_entry};
@@ -15,7 +15,7 @@ ghost use Rattle.state_incoming.specs.HeldTables.{AreHeld, held_in};
 use crate::deliveries::Deliveries;
 use capture_form::RuleSet;
 use pairing_cert::Note;
-use trace_values::{Incoming, has_multicast};
+use trace_events::{Incoming, has_multicast};
 
 impl Deliveries {
     /// The delivery of a client that begins in the record of this number, where the table can tell of it.

@@ -10,15 +10,14 @@ ghost use Rattle.trace_events.specs.Link.{IsLiveLink};
 ghost use Rattle.trace_events.specs.History.{IsHistory};
 ghost use Rattle.trace_events.specs.Settling as settling;
 ghost use Rattle.trace_events.specs.Waiting as waiting;
-ghost use Rattle.trace_values.specs.View.{Events, incoming_view, link_view};
+ghost use Rattle.trace_events.specs.View.{Events, incoming_view, link_view};
 ghost use Rattle.state_incoming.specs.EntryAnswers.{Knows};
 ghost use Rattle.state_incoming.specs.HeldTables.{AreHeld, IsTable, held_in};
 ghost use Rattle.state_incoming.specs.WaitingCount as counts;
 
 use crate::deliveries::Deliveries;
 use number_groups::{IdOn, OctetGroups};
-use trace_events::Session;
-use trace_values::{Incoming, Link};
+use trace_events::{Incoming, Link, Session};
 
 impl Deliveries {
     /// A delivery waits at the address.

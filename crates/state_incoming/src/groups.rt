@@ -7,12 +7,12 @@ ghost use Rattle.number_groups.specs.OctetGroups as octets;
 ghost use Rattle.state_incoming.specs.Grouped.{AreGrouped, IsMarked, IsPut, marks_of, unmarked};
 ghost use Rattle.state_incoming.specs.HeldViews.{held_view};
 ghost use Rattle.number_groups.specs.Ids.{same_id};
-ghost use Rattle.trace_values.specs.View.{incoming_view};
+ghost use Rattle.trace_events.specs.View.{incoming_view};
 
 use crate::held::HeldDelivery;
 use number_groups::{Groups, IdOn, OctetGroups};
 use std::alloc::{AllocError, Global};
-use trace_values::Incoming;
+use trace_events::Incoming;
 
 /// What a delivery is found by.
 #[derive(Clone, Copy)]

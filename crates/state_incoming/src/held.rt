@@ -10,21 +10,21 @@ ghost use Rattle.trace_events.specs.Outgoing as sent;
 ghost use Rattle.trace_events.specs.Waiting as fates;
 ghost use Rattle.trace_events.specs.Settling.{is_closed};
 ghost use Rattle.trace_events.specs.History.{history};
-ghost use Rattle.trace_clauses.specs.Clauses.{first_broken};
-ghost use Rattle.trace_clauses.specs.Outcome.{may_be_told};
-ghost use Rattle.trace_clauses.specs.TransferClause.{to_carry};
+ghost use Rattle.trace_events.specs.Clauses.{first_broken};
+ghost use Rattle.trace_events.specs.Outcome.{may_be_told};
+ghost use Rattle.trace_events.specs.TransferClause.{to_carry};
 ghost use Rattle.pairing_cert.specs.declared.note.Note.TheVariants as notes;
 ghost use Rattle.capture_form.specs.declared.records.Record.{Record};
 ghost use Rattle.state_incoming.specs.Held as kept;
 ghost use Rattle.state_incoming.specs.Held.{IsEntry, HeldFollows, HeldBegins};
 ghost use Rattle.state_incoming.specs.HeldViews.{held_view};
 ghost use Rattle.state_incoming.specs.LetGo.{is_spent};
-ghost use Rattle.trace_values.specs.View.{Events, incoming_view, event_view};
+ghost use Rattle.trace_events.specs.View.{Events, incoming_view, event_view};
 
 use capture_form::RuleSet;
 use state_tables::HeldLink;
 use std::alloc::{AllocError, Global};
-use trace_values::{Event, Incoming, has_multicast};
+use trace_events::{Event, Incoming, has_multicast};
 
 /// What has become of it.
 #[derive(Clone, Copy, Debug, PartialEq, Eq)]

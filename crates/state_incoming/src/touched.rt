@@ -7,14 +7,14 @@ ghost use Rattle.number_groups.specs.Groups.{is_member};
 ghost use Rattle.number_groups.specs.OctetGroups as octets;
 ghost use Rattle.trace_events.specs.Words.{is_some_and};
 ghost use Rattle.state_incoming.specs.Touched as law;
-ghost use Rattle.trace_values.specs.View.{event_view, link_view};
+ghost use Rattle.trace_events.specs.View.{event_view, link_view};
 
 use crate::groups::HeldGroups;
 use amqp_perf::Role;
 use number_groups::{NumberSet, OctetGroups};
 use state_tables::{Addresses, add_group, add_number};
 use std::alloc::{AllocError, Global};
-use trace_values::{Event, Link};
+use trace_events::{Event, Link};
 
 /// All numbers of the group of an address come in.
 fn add_waiting(

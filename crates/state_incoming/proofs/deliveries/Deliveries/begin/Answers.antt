@@ -1,6 +1,6 @@
 use Rattle.std.proofs.Common.{◌≡◌, ap, sym, ◌∙◌, ℕ, List, None, Some, refl, subst, if◌then◌else◌, ◌==◌, rules}
 use Rattle.trace_events.specs.Event.{Incoming}
-use Rattle.trace_values.specs.View.{event_view, incoming_view}
+use Rattle.trace_events.specs.View.{event_view, incoming_view}
 use Rattle.state_incoming.specs.Grouped.{IsMarked, IsPut, marks_of}
 use Rattle.state_incoming.specs.Held.{held_begun}
 use Rattle.state_incoming.specs.HeldViews.{held_view}

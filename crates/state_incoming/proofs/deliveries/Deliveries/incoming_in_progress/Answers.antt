@@ -1,5 +1,5 @@
 use Rattle.std.proofs.Common.{sym, subst, Option, IfSome, ◌∙◌, nat_eq}
-use Rattle.trace_values.specs.View.{link_view}
+use Rattle.trace_events.specs.View.{link_view}
 use Rattle.number_groups.specs.Groups.{numbers}
 use Rattle.state_tables.specs.LetGo.{is_let_go}
 use Rattle.state_incoming.specs.HeldTables.{held_in}

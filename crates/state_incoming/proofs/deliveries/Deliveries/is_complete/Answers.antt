@@ -1,5 +1,5 @@
 use Rattle.std.proofs.Common.{◌∙◌}
-use Rattle.trace_values.specs.View.{incoming_view}
+use Rattle.trace_events.specs.View.{incoming_view}
 use Rattle.state_incoming.proofs.KnownEntries.{known-complete}
 use Rattle.state_incoming.proofs.deliveries.Deliveries.is_complete.Goals as goal
 

@@ -1,6 +1,6 @@
 use Rattle.std.proofs.Common.{ap, ◌+◌, ◌∙◌, length}
 use Rattle.std.specs.Prelude.{nat_lt}
-use Rattle.trace_values.specs.View.{incoming_view}
+use Rattle.trace_events.specs.View.{incoming_view}
 use Rattle.state_incoming.proofs.KnownEntries.{known-payload}
 use Rattle.state_incoming.proofs.deliveries.Deliveries.is_longer.Goals as goal
 

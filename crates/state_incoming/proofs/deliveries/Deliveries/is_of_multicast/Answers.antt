@@ -1,6 +1,6 @@
 use Rattle.std.proofs.Common.{ap, ◌∙◌}
 use Rattle.trace_events.specs.Address.{has_multicast}
-use Rattle.trace_values.specs.View.{incoming_view}
+use Rattle.trace_events.specs.View.{incoming_view}
 use Rattle.state_incoming.proofs.KnownEntries.{known-address}
 use Rattle.state_incoming.proofs.deliveries.Deliveries.is_of_multicast.Goals as goal
 

@@ -4,7 +4,7 @@ use Rattle.number_groups.specs.Numbers.{is_among}
 use Rattle.trace_events.specs.Words.{or_else}
 use Rattle.trace_events.specs.History.{history}
 use Rattle.trace_events.proofs.Judged.{AreJudged, history-judged}
-use Rattle.trace_values.specs.View.{event_view, link_view}
+use Rattle.trace_events.specs.View.{event_view, link_view}
 use Rattle.state_tables.specs.LetGo.{is_let_go}
 use Rattle.state_incoming.specs.Held.{Held, address_behind, held_begun, is_begun_served}
 use Rattle.state_incoming.specs.HeldTouched.{is_touched}

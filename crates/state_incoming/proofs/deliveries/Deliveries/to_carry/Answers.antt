@@ -1,6 +1,6 @@
 use Rattle.std.proofs.Common.{◌≡◌, sym, subst, ◌∙◌, Option, Some, IfSome}
 use Rattle.trace_events.specs.Event.{Incoming}
-use Rattle.trace_clauses.specs.TransferClause.{to_carry}
+use Rattle.trace_events.specs.TransferClause.{to_carry}
 use Rattle.state_incoming.specs.EntryAnswers.{Knows}
 use Rattle.state_incoming.proofs.KnownEntries.{given-carried, known-carried, knows-carried}
 use Rattle.state_incoming.proofs.deliveries.Deliveries.to_carry.Goals as goal

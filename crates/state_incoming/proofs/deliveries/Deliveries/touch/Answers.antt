@@ -1,6 +1,6 @@
 use Rattle.std.proofs.Common.{◌≡◌, ap, sym, ◌∙◌, ℕ, true, List, None, Some, IfSome, refl, subst, if◌then◌else◌, ◌==◌, rules}
 use Rattle.trace_events.specs.Event.{Incoming}
-use Rattle.trace_values.specs.View.{incoming_view}
+use Rattle.trace_events.specs.View.{incoming_view}
 use Rattle.state_incoming.specs.declared.groups.GroupMarks.{GroupMarks}
 use Rattle.state_incoming.specs.Grouped.{IsMarked, IsPut, marks_of, unmarked}
 use Rattle.state_incoming.specs.Held.{Held, says_waiting}

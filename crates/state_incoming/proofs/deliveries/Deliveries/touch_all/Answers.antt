@@ -1,7 +1,7 @@
 use Rattle.std.proofs.Common.{◌≡◌, refl, ap, ◌∙◌, ℕ, arith, option_and_then, if◌then◌else◌, ◌==◌}
 use Rattle.std.proofs.lemmas.Result.{err_from_is_err_and}
 use Rattle.number_groups.specs.Numbers.{is_among}
-use Rattle.trace_values.specs.View.{event_view}
+use Rattle.trace_events.specs.View.{event_view}
 use Rattle.state_incoming.specs.Held.{held_next}
 use Rattle.state_incoming.specs.HeldTables.{held_in}
 use Rattle.state_incoming.proofs.TouchedAll.{nothing-moved, all-moved, still-within, one-more, popped-in, none-left}

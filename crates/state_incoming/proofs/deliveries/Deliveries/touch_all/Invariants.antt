@@ -1,6 +1,6 @@
 use Rattle.std.proofs.Common.{◌≡◌, ℕ, true, ◌&&◌, not, length, if◌then◌else◌}
 use Rattle.number_groups.specs.Numbers.{is_among}
-use Rattle.trace_values.specs.View.{event_view}
+use Rattle.trace_events.specs.View.{event_view}
 use Rattle.state_incoming.specs.Grouped.{AreGrouped}
 use Rattle.state_incoming.specs.HeldTables.{held_in}
 use Rattle.state_incoming.proofs.TouchedAll.{on}

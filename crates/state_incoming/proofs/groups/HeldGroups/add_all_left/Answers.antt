@@ -2,7 +2,7 @@ use Rattle.std.proofs.lemmas.List.Folds.{list_any_at}
 use Rattle.std.proofs.lemmas.Result.{err_from_is_err_and}
 use Rattle.number_groups.specs.Numbers.{is_among}
 use Rattle.state_incoming.specs.Touched as law
-use Rattle.trace_values.specs.View.{link_view}
+use Rattle.trace_events.specs.View.{link_view}
 use Rattle.state_tables.proofs.GroupLists.{nothing-yet, each-more, each-in}
 use Rattle.state_incoming.proofs.groups.HeldGroups.add_all_left.Goals as goal
 

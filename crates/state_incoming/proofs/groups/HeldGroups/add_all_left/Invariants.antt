@@ -2,7 +2,7 @@ use Rattle.std.proofs.Common.{◌≡◌, ℕ, ◌||◌, take}
 use Rattle.std.specs.List.{list_any}
 use Rattle.number_groups.specs.Numbers.{is_among}
 use Rattle.state_incoming.specs.Touched as law
-use Rattle.trace_values.specs.View.{link_view}
+use Rattle.trace_events.specs.View.{link_view}
 use Rattle.state_incoming.proofs.groups.HeldGroups.add_all_left.Given as goal
 
 abbrev pub invariant-loop-link : goal.invariant-loop-link

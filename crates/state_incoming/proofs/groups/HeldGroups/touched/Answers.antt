@@ -3,7 +3,7 @@ use Rattle.std.proofs.lemmas.Result.{err_from_is_err_and}
 use Rattle.std.specs.List.{list_any}
 use Rattle.trace_events.specs.Words.{is_number}
 use Rattle.state_incoming.specs.Touched as law
-use Rattle.trace_values.specs.View.{event_view, link_view}
+use Rattle.trace_events.specs.View.{event_view, link_view}
 use Rattle.state_tables.proofs.GroupLists.{any-map, five-in}
 use Rattle.state_incoming.proofs.SomeTouched.{by-part, by-told, by-carried, by-settled, by-left}
 use Rattle.state_incoming.proofs.groups.HeldGroups.touched.Goals as goal

@@ -1,5 +1,5 @@
 use Rattle.std.proofs.Common.{option_map}
-use Rattle.trace_values.specs.View.{event_view}
+use Rattle.trace_events.specs.View.{event_view}
 use Rattle.state_incoming.specs.HeldViews.{held_view}
 use Rattle.state_incoming.proofs.HeldKnown.{begins}
 use Rattle.state_incoming.proofs.held.HeldDelivery.begin.Goals as goal

@@ -1,4 +1,4 @@
-use Rattle.trace_values.specs.View.{event_view}
+use Rattle.trace_events.specs.View.{event_view}
 use Rattle.state_incoming.specs.HeldViews.{held_view}
 use Rattle.state_incoming.proofs.HeldKnown.{follows}
 use Rattle.state_incoming.proofs.held.HeldDelivery.take.Goals as goal
