@@ -12,9 +12,9 @@ use Rattle.trace_events.specs.Link.{link_at, links}
 use Rattle.trace_events.proofs.Along.{and_first}
 use Rattle.trace_events.proofs.Judged.{AreJudged}
 use Rattle.trace_events.proofs.LinkNumbers.{links-found}
-use Rattle.trace_clauses.proofs.WaitingQueue.{find_has}
-use Rattle.trace_clauses.specs.CopyVerdict.{copy_verdict, awaits_verdict}
-use Rattle.trace_clauses.specs.BestVerdict.{is_same_outcome, is_verdict, has_verdict, is_due_to_some, has_all_verdicts, best_verdict}
+use Rattle.trace_events.proofs.WaitingQueue.{find_has}
+use Rattle.trace_events.specs.CopyVerdict.{copy_verdict, awaits_verdict}
+use Rattle.trace_events.specs.BestVerdict.{is_same_outcome, is_verdict, has_verdict, is_due_to_some, has_all_verdicts, best_verdict}
 use Rattle.state_verdicts.specs.Verdicts.{awaits_at, verdict_at, best_of}
 use Rattle.state_verdicts.proofs.TableSteps.{any-gives, any-from}
 use Rattle.state_verdicts.proofs.VerdictsNext.{same-self}

@@ -16,10 +16,10 @@ use Rattle.trace_events.proofs.Judged.{AreJudged}
 use Rattle.trace_events.proofs.LinkLives.{judged-stands}
 use Rattle.trace_events.proofs.Links as links
 use Rattle.trace_events.proofs.SessionNumbers.{last_session-known}
-use Rattle.trace_clauses.specs.Clauses.{first_broken}
-use Rattle.trace_clauses.specs.CopyVerdict.{awaits_verdict, copy_on, copy_verdict, verdict_on}
-use Rattle.trace_clauses.proofs.BegunDeliveries.{found-begun}
-use Rattle.trace_clauses.proofs.VerdictSteps.{found-passes}
+use Rattle.trace_events.specs.Clauses.{first_broken}
+use Rattle.trace_events.specs.CopyVerdict.{awaits_verdict, copy_on, copy_verdict, verdict_on}
+use Rattle.trace_events.proofs.BegunDeliveries.{found-begun}
+use Rattle.trace_events.proofs.VerdictSteps.{found-passes}
 use Rattle.state_verdicts.specs.Verdicts.{awaits_at}
 
 same_some : {A : Type 0} (a b : A) → Some a ≡ Some b → a ≡ b

@@ -11,10 +11,10 @@ use Rattle.trace_events.specs.History.{history}
 use Rattle.trace_events.specs.Incoming.{incoming_at}
 use Rattle.trace_events.specs.Link.{link_at}
 use Rattle.trace_events.specs.Words.{is_some_and}
-use Rattle.trace_clauses.specs.Written.{spoken_octets}
-use Rattle.trace_clauses.proofs.Captures.{unmarked}
-use Rattle.trace_clauses.proofs.Made.{from, detach_of, multicast, finishes}
-use Rattle.trace_clauses.proofs.Copies.{due, copy_to}
+use Rattle.trace_events.specs.Written.{spoken_octets}
+use Rattle.trace_events.proofs.Captures.{unmarked}
+use Rattle.trace_events.proofs.Made.{from, detach_of, multicast, finishes}
+use Rattle.trace_events.proofs.Copies.{due, copy_to}
 use Rattle.state_tables.specs.LetGo.{is_let_go}
 use Rattle.state_verdicts.specs.Verdicts.{awaits_at}
 

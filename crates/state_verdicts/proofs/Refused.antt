@@ -5,8 +5,8 @@ use Rattle.trace_events.specs.Event as law
 use Rattle.trace_events.specs.Incoming.{completed_by}
 use Rattle.trace_events.specs.Words.{is_some_and}
 use Rattle.trace_events.proofs.Along.{and_first, and_last}
-use Rattle.trace_values.specs.View.{link_view}
-use Rattle.trace_values.specs.declared.event.Link.{Link}
+use Rattle.trace_events.specs.View.{link_view}
+use Rattle.trace_events.specs.declared.event.Link.{Link}
 use Rattle.state_tables.specs.EndedLinks.{views}
 use Rattle.state_verdicts.specs.Verdicts.{MayGrow, awaits_in, comes_now}
 use Rattle.state_verdicts.specs.declared.verdicts.CopyVerdict.{CopyVerdict}

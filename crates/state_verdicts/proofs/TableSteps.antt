@@ -6,7 +6,7 @@ use Rattle.std.proofs.lemmas.Cmp.{nat_eq_equiv}
 use Rattle.std.proofs.lemmas.List.Folds.{list_any_more}
 use Rattle.std.proofs.lemmas.Map.Made.{length-le_from_is_member}
 use Rattle.number_groups.specs.Numbers.{is_among}
-use Rattle.trace_clauses.proofs.WaitingQueue.{contains_first, contains_later, contains_cases, contains_none}
+use Rattle.trace_events.proofs.WaitingQueue.{contains_first, contains_later, contains_cases, contains_none}
 
 pub and_false : (b : Bool) → b && false ≡ false
 and_false true = refl

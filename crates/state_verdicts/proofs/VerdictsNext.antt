@@ -23,17 +23,17 @@ use Rattle.trace_events.proofs.LinkLives.{judged-stands}
 use Rattle.trace_events.proofs.LinkNumbers.{judged-found, link_at-later, links-found, own_link-number}
 use Rattle.trace_events.proofs.Links as links
 use Rattle.trace_events.proofs.SessionNumbers.{last_session-known}
-use Rattle.trace_clauses.specs.Clauses.{first_broken}
-use Rattle.trace_clauses.proofs.Incomings.{judged-sound}
-use Rattle.trace_clauses.proofs.IncomingProgress.{judged-kept}
-use Rattle.trace_clauses.proofs.LinkEnds.{lives-live}
-use Rattle.trace_clauses.proofs.OneConsumer.{found-at, incoming_at-is}
-use Rattle.trace_clauses.proofs.Parts.{IsKept}
-use Rattle.trace_clauses.proofs.UnsentCopies.{due_complete}
-use Rattle.trace_clauses.proofs.WaitingQueue.{all_contained, completed_once, contains_cases, contains_first, contains_none, each_completed, find_has}
-use Rattle.trace_clauses.specs.CopyVerdict.{copy_verdict, begun_verdict_by, verdict_by, awaits_verdict, awaits_now}
-use Rattle.trace_clauses.specs.BestVerdict.{is_same_outcome, is_verdict, has_verdict}
-use Rattle.trace_clauses.proofs.AwaitedSteps.{awaits_verdict_moves, awaits_now-live, awaited-given, has_verdict_moves, new_link-undue}
+use Rattle.trace_events.specs.Clauses.{first_broken}
+use Rattle.trace_events.proofs.Incomings.{judged-sound}
+use Rattle.trace_events.proofs.IncomingProgress.{judged-kept}
+use Rattle.trace_events.proofs.LinkEnds.{lives-live}
+use Rattle.trace_events.proofs.OneConsumer.{found-at, incoming_at-is}
+use Rattle.trace_events.proofs.Parts.{IsKept}
+use Rattle.trace_events.proofs.UnsentCopies.{due_complete}
+use Rattle.trace_events.proofs.WaitingQueue.{all_contained, completed_once, contains_cases, contains_first, contains_none, each_completed, find_has}
+use Rattle.trace_events.specs.CopyVerdict.{copy_verdict, begun_verdict_by, verdict_by, awaits_verdict, awaits_now}
+use Rattle.trace_events.specs.BestVerdict.{is_same_outcome, is_verdict, has_verdict}
+use Rattle.trace_events.proofs.AwaitedSteps.{awaits_verdict_moves, awaits_now-live, awaited-given, has_verdict_moves, new_link-undue}
 use Rattle.state_tables.specs.ConsumerLinks.{has_link}
 use Rattle.state_tables.specs.Copies.{AreDue}
 use Rattle.state_verdicts.specs.Verdicts.{AreGiven, awaits_at, verdict_at, comes_now, is_given, is_of_copy, is_verdict_of}

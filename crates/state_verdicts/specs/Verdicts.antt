@@ -10,8 +10,8 @@ use Rattle.trace_events.specs.Words.{is_some_and}
 use Rattle.trace_events.specs.Event.{Event, Link, Incoming}
 use Rattle.trace_events.specs.Incoming.{completed_by, incoming_at}
 use Rattle.trace_events.specs.Link.{link_at}
-use Rattle.trace_clauses.specs.CopyVerdict.{awaits_verdict, awaits_now, begun_verdict}
-use Rattle.trace_clauses.specs.BestVerdict.{is_same_outcome, has_verdict}
+use Rattle.trace_events.specs.CopyVerdict.{awaits_verdict, awaits_now, begun_verdict}
+use Rattle.trace_events.specs.BestVerdict.{is_same_outcome, has_verdict}
 use Rattle.state_tables.specs.LetGo.{is_let_go}
 use Rattle.state_verdicts.specs.declared.had.Had.{Had}
 use Rattle.state_verdicts.specs.declared.verdicts.Verdicts.{Verdicts}

@@ -4,20 +4,20 @@ ghost use Rattle.std.specs.Prelude.{◌≡◌, ◌↔◌, ℕ, IsTrue, List, Som
 ghost use Rattle.capture_form.specs.Rules.{RuleSet};
 ghost use Rattle.capture_form.specs.declared.records.Record.{Record};
 ghost use Rattle.number_groups.specs.Groups.{is_member};
-ghost use Rattle.trace_clauses.specs.Clauses.{first_broken};
+ghost use Rattle.trace_events.specs.Clauses.{first_broken};
 ghost use Rattle.trace_events.specs.Due.{is_unsent};
 ghost use Rattle.trace_events.specs.Event as law;
 ghost use Rattle.trace_events.specs.History.{history};
 ghost use Rattle.trace_events.specs.Incoming.{incoming_at};
 ghost use Rattle.trace_events.specs.Link.{IsLiveLink};
-ghost use Rattle.trace_values.specs.View.{incoming_view};
-ghost use Rattle.trace_clauses.specs.BestVerdict.{best_verdict, has_all_verdicts, whole_verdict};
+ghost use Rattle.trace_events.specs.View.{incoming_view};
+ghost use Rattle.trace_events.specs.BestVerdict.{best_verdict, has_all_verdicts, whole_verdict};
 ghost use Rattle.state_tables.specs.LetGo.{is_let_go};
 ghost use Rattle.state_verdicts.specs.Verdicts.{AreVerdicts, best_of, had_in};
 
 use crate::verdicts::Verdicts;
 use amqp_perf::Outcome;
-use trace_values::Incoming;
+use trace_events::Incoming;
 
 impl Verdicts {
     /// Every copy of the delivery, which is one of the capture, has its verdict; so too where none is due.

@@ -2,7 +2,7 @@
 
 ghost use Rattle.std.specs.Prelude.{◌≡◌, ◌||◌, false};
 ghost use Rattle.amqp_perf.specs.declared.descriptor.Outcome.{Outcome};
-ghost use Rattle.trace_clauses.specs.BestVerdict.{is_same_outcome};
+ghost use Rattle.trace_events.specs.BestVerdict.{is_same_outcome};
 ghost use Rattle.state_verdicts.specs.Verdicts.{best_of, says};
 
 use amqp_perf::Outcome;

@@ -10,8 +10,8 @@ ghost use Rattle.number_groups.specs.Groups.{numbers};
 ghost use Rattle.trace_events.specs.History.{history};
 ghost use Rattle.trace_events.specs.Incoming as received;
 ghost use Rattle.trace_events.specs.Words.{is_some_and};
-ghost use Rattle.trace_values.specs.View.{Events, event_view};
-ghost use Rattle.trace_clauses.specs.BestVerdict.{is_same_outcome};
+ghost use Rattle.trace_events.specs.View.{Events, event_view};
+ghost use Rattle.trace_events.specs.BestVerdict.{is_same_outcome};
 ghost use Rattle.state_tables.specs.Connections.{IsLawfulNext};
 ghost use Rattle.state_tables.specs.EndedLinks.{AreEnded, views};
 ghost use Rattle.state_tables.specs.Copies.{AreDue};
@@ -23,7 +23,7 @@ use http_server::Log;
 use number_groups::Groups;
 use number_map::NumberMap;
 use std::alloc::{AllocError, Global};
-use trace_values::{Event, Link};
+use trace_events::{Event, Link};
 
 /// The verdict of the copy of the delivery of this number on the link of that one.
 #[derive(Clone, Copy)]

@@ -1,7 +1,7 @@
 use Rattle.std.proofs.Common.{◌∙◌}
 use Rattle.trace_events.specs.History.{history}
 use Rattle.trace_events.proofs.Judged.{history-judged}
-use Rattle.trace_values.specs.View.{incoming_view}
+use Rattle.trace_events.specs.View.{incoming_view}
 use Rattle.state_verdicts.specs.Verdicts.{had_in}
 use Rattle.state_verdicts.proofs.Answered.{best-by, best-is}
 use Rattle.state_verdicts.proofs.verdicts.Verdicts.best.Goals as goal

@@ -3,8 +3,8 @@ use Rattle.std.proofs.lemmas.List.Folds.{list_any_at}
 use Rattle.std.proofs.lemmas.Result.{err_from_is_err_and}
 use Rattle.amqp_perf.specs.declared.descriptor.Outcome.TheVariants.{Modified}
 use Rattle.trace_events.proofs.Along.{and_first}
-use Rattle.trace_values.specs.declared.event.Link.{Link}
-use Rattle.trace_clauses.specs.BestVerdict.{is_same_outcome}
+use Rattle.trace_events.specs.declared.event.Link.{Link}
+use Rattle.trace_events.specs.BestVerdict.{is_same_outcome}
 use Rattle.state_verdicts.specs.Verdicts.{awaits_in, had_in}
 use Rattle.state_verdicts.proofs.TableSteps.{one-goes, one-modified}
 use Rattle.state_verdicts.proofs.verdicts.Verdicts.end.Goals as goal

@@ -3,7 +3,7 @@ use Rattle.std.proofs.lemmas.Result.{err_from_is_err_and}
 use Rattle.number_groups.specs.Groups.{numbers}
 use Rattle.number_groups.specs.Numbers.{is_among}
 use Rattle.amqp_perf.specs.declared.descriptor.Outcome.TheVariants.{Modified}
-use Rattle.trace_clauses.specs.BestVerdict.{is_same_outcome}
+use Rattle.trace_events.specs.BestVerdict.{is_same_outcome}
 use Rattle.state_verdicts.specs.Verdicts.{awaits_in, had_in}
 use Rattle.state_verdicts.proofs.TableSteps.{and_true, first-there, gone-modified, none-fewer, one-fewer, same-modified}
 use Rattle.state_verdicts.proofs.verdicts.Verdicts.end_first.Goals as goal

@@ -1,6 +1,6 @@
 use Rattle.std.proofs.Common.{◌∙◌}
 use Rattle.amqp_perf.specs.declared.descriptor.Outcome.TheVariants.{Modified}
-use Rattle.trace_clauses.specs.BestVerdict.{is_same_outcome}
+use Rattle.trace_events.specs.BestVerdict.{is_same_outcome}
 use Rattle.state_verdicts.specs.Verdicts.{awaits_in, had_in}
 use Rattle.state_verdicts.proofs.TableSteps.{step-modified}
 use Rattle.state_verdicts.proofs.verdicts.Verdicts.end_one.Goals as goal

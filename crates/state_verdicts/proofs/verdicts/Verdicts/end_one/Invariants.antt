@@ -2,7 +2,7 @@ use Rattle.std.proofs.Common.{◌≡◌, ◌&&◌, ◌||◌, ◌==◌, ℕ, true
 use Rattle.number_groups.specs.Groups.{numbers}
 use Rattle.amqp_perf.specs.declared.descriptor.Outcome.{Outcome}
 use Rattle.amqp_perf.specs.declared.descriptor.Outcome.TheVariants.{Modified}
-use Rattle.trace_clauses.specs.BestVerdict.{is_same_outcome}
+use Rattle.trace_events.specs.BestVerdict.{is_same_outcome}
 use Rattle.state_verdicts.specs.Verdicts.{AreMirrored, awaits_in, had_in}
 use Rattle.state_verdicts.proofs.verdicts.Verdicts.end_one.Given as goal
 

@@ -3,7 +3,7 @@ use Rattle.trace_events.specs.Event.{Incoming}
 use Rattle.trace_events.specs.History.{history}
 use Rattle.trace_events.specs.Incoming.{incoming_at}
 use Rattle.trace_events.proofs.Judged.{AreJudged, history-judged}
-use Rattle.trace_clauses.proofs.OneConsumer.{incoming_at-is}
+use Rattle.trace_events.proofs.OneConsumer.{incoming_at-is}
 use Rattle.state_verdicts.specs.Verdicts.{awaits_at}
 use Rattle.state_verdicts.proofs.Copied.{all-copied}
 use Rattle.state_verdicts.proofs.verdicts.Verdicts.has_all_of.Goals as goal

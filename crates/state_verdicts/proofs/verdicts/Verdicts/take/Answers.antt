@@ -7,9 +7,9 @@ use Rattle.trace_events.specs.History.{history}
 use Rattle.trace_events.proofs.Along.{and_first}
 use Rattle.trace_events.proofs.Judged.{AreJudged, history-judged}
 use Rattle.trace_events.proofs.StepWords.{any-by}
-use Rattle.trace_values.specs.View.{event_view, link_view}
-use Rattle.trace_values.specs.declared.event.Link.{Link}
-use Rattle.trace_clauses.specs.BestVerdict.{is_same_outcome}
+use Rattle.trace_events.specs.View.{event_view, link_view}
+use Rattle.trace_events.specs.declared.event.Link.{Link}
+use Rattle.trace_events.specs.BestVerdict.{is_same_outcome}
 use Rattle.state_tables.specs.EndedLinks.{views}
 use Rattle.state_tables.specs.LetGo.{is_let_go}
 use Rattle.state_verdicts.specs.Verdicts.{awaits_at, awaits_in, comes_now, is_given, is_taken, is_verdict_of, verdict_at}
