@@ -19,8 +19,8 @@ use Rattle.trace_events.specs.Work.{carries_closed, stands_unsettled}
 use Rattle.trace_events.proofs.Judged.{AreJudged, judged-born}
 use Rattle.trace_events.proofs.OutgoingLinks.{first_deciding-before}
 use Rattle.trace_events.proofs.SettlingSteps.{is_to_settle-parts}
-use Rattle.trace_clauses.specs.TransferClause.{carried_before}
-use Rattle.trace_clauses.proofs.WaitingQueue.{find_has}
+use Rattle.trace_events.specs.TransferClause.{carried_before}
+use Rattle.trace_events.proofs.WaitingQueue.{find_has}
 use Rattle.number_groups.specs.Groups.{numbers}
 use Rattle.state_tables.specs.ConsumerLinks.{link_in}
 use Rattle.state_tables.specs.LetGo.{is_let_go, names_let_go}

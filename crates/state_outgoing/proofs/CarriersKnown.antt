@@ -10,8 +10,8 @@ use Rattle.trace_events.specs.Words.{is_some_and}
 use Rattle.trace_events.specs.Event.{Event, Outgoing}
 use Rattle.trace_events.specs.Outgoing.{outgoing_begun, outgoing_deliveries, outgoing_at, names}
 use Rattle.trace_events.proofs.Judged.{AreJudged}
-use Rattle.trace_clauses.specs.Kept.{carriers}
-use Rattle.trace_clauses.proofs.WaitingQueue.{contains_cases, contains_first, contains_later, contains_none, filter_has, in_filter}
+use Rattle.trace_events.specs.Kept.{carriers}
+use Rattle.trace_events.proofs.WaitingQueue.{contains_cases, contains_first, contains_later, contains_none, filter_has, in_filter}
 use Rattle.state_tables.specs.LetGo.{is_let_go, names_let_go}
 use Rattle.state_outgoing.specs.LastBegun.{carrier, carrier_number, carrier_numbers, begins_carrier, carriers_next}
 use Rattle.state_outgoing.specs.LetGo.{where_kept, kept_at, is_done, is_finished}

@@ -9,17 +9,17 @@ use Rattle.trace_events.specs.Event.{Event, Link, Incoming, Outgoing, out_frame}
 use Rattle.trace_events.specs.Said.{as_transfer, out_spoken, out_transfer}
 use Rattle.trace_events.specs.Incoming.{incoming_at}
 use Rattle.trace_events.specs.Outgoing.{in_progress, is_part, is_sent, outgoing_begun, outgoing_deliveries, outgoing_at, noted}
-use Rattle.trace_clauses.specs.TransferClause.{carried_before}
+use Rattle.trace_events.specs.TransferClause.{carried_before}
 use Rattle.trace_events.proofs.Along.{and_then_some}
 use Rattle.trace_events.proofs.Judged.{AreJudged, AreBorn, IsBorn, IsTransfer, judged-born, judged-number, judged-transfer}
 use Rattle.trace_events.proofs.Links.{passing}
 use Rattle.trace_events.proofs.OutgoingSteps.{in_progress-same, is_sent-no_part}
-use Rattle.trace_clauses.proofs.OutgoingProgress.{IsPartOf, judged-outgoing_part, noted_pair}
+use Rattle.trace_events.proofs.OutgoingProgress.{IsPartOf, judged-outgoing_part, noted_pair}
 use Rattle.state_tables.specs.LetGo.{names_let_go}
 use Rattle.state_outgoing.specs.LetGo.{where_kept, kept_at}
 use Rattle.state_outgoing.specs.Sent.{Sent, sent}
 use Rattle.state_outgoing.specs.LastBegun.{last_on, last_number, is_last_let_go, begins_on, on_link_next}
-use Rattle.trace_clauses.proofs.WaitingQueue.{find_has}
+use Rattle.trace_events.proofs.WaitingQueue.{find_has}
 use Rattle.state_outgoing.proofs.SentKept.{IsOver, unfinished-names, unsent-unfinished}
 use Rattle.state_outgoing.proofs.OutgoingNumbers.{begun-number, found-passes, found-earlier, found-at, found-known, found-entry, last-step}
 

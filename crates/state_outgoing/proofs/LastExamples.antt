@@ -10,8 +10,8 @@ use Rattle.capture_form.specs.declared.records.Record.{Record}
 use Rattle.capture_form.specs.Rules.{no_rules}
 use Rattle.trace_events.specs.Frame.{frame_read}
 use Rattle.trace_events.specs.History.{history, judge}
-use Rattle.trace_clauses.specs.Written.{spoken_octets}
-use Rattle.trace_clauses.proofs.Made.{from, from_with, carry, gives, first, hi, q, consumer, sent, half, rest}
+use Rattle.trace_events.specs.Written.{spoken_octets}
+use Rattle.trace_events.proofs.Made.{from, from_with, carry, gives, first, hi, q, consumer, sent, half, rest}
 use Rattle.state_outgoing.specs.LastBegun.{last_number, is_last_carrying, is_last_let_go, begins_on, carrier_number, carrier_numbers, begins_carrier, carriers_next}
 
 unfoldable last_in : List (ℕ × Unit {0}) → List Record → ℕ → Option ℕ

@@ -15,9 +15,9 @@ use Rattle.trace_events.specs.Frame.{frame_read}
 use Rattle.trace_events.specs.Words.{is_some_and}
 use Rattle.trace_events.specs.Outgoing.{outgoing_at}
 use Rattle.trace_events.specs.History.{history}
-use Rattle.trace_clauses.specs.Written.{spoken_octets}
-use Rattle.trace_clauses.specs.Kept.{carriers}
-use Rattle.trace_clauses.proofs.Made.{from, disposes, sent, half_carried, carried, pre_settled, settles, consumer_leaves}
+use Rattle.trace_events.specs.Written.{spoken_octets}
+use Rattle.trace_events.specs.Kept.{carriers}
+use Rattle.trace_events.proofs.Made.{from, disposes, sent, half_carried, carried, pre_settled, settles, consumer_leaves}
 use Rattle.state_tables.specs.LetGo.{is_let_go, names_let_go}
 use Rattle.state_outgoing.specs.LastBegun.{carrier_numbers}
 use Rattle.state_outgoing.specs.LetGo.{kept_at, is_finished, is_done}

@@ -11,8 +11,8 @@ use Rattle.trace_events.specs.Words.{is_some_and, where_passes}
 use Rattle.trace_events.specs.Event.{Event, Outgoing}
 use Rattle.trace_events.specs.Outgoing.{names, outgoing_deliveries, outgoing_at}
 use Rattle.trace_events.proofs.Judged.{AreJudged}
-use Rattle.trace_clauses.specs.Kept.{carriers}
-use Rattle.trace_clauses.proofs.WaitingQueue.{filter_has, in_filter}
+use Rattle.trace_events.specs.Kept.{carriers}
+use Rattle.trace_events.proofs.WaitingQueue.{filter_has, in_filter}
 use Rattle.state_tables.specs.LetGo.{is_let_go, names_let_go}
 use Rattle.state_tables.proofs.GroupLists.{swapped}
 use Rattle.state_outgoing.specs.Carriers.{carriers_in}

@@ -20,8 +20,8 @@ use Rattle.trace_events.proofs.Judged.{AreJudged, AreBorn, IsBorn, judged-born, 
 use Rattle.trace_events.proofs.Links.{passing}
 use Rattle.trace_events.proofs.OutgoingLinks.{answering-before, first_deciding-before}
 use Rattle.trace_events.proofs.OutgoingSteps.{payload-same, is_sent-no_part, is_settled_by_consumer-unanswered, is_settled_by_router-same}
-use Rattle.trace_clauses.proofs.Parts.{all_such, found_holds}
-use Rattle.trace_clauses.proofs.WaitingQueue.{all_contained, find_has, in_reverse}
+use Rattle.trace_events.proofs.Parts.{all_such, found_holds}
+use Rattle.trace_events.proofs.WaitingQueue.{all_contained, find_has, in_reverse}
 use Rattle.state_outgoing.specs.Sent.{sent, unsent, begins_number}
 use Rattle.state_outgoing.proofs.SentSteps.{made-same}
 

@@ -14,8 +14,8 @@ use Rattle.trace_events.specs.Frame.{frame_read}
 use Rattle.trace_events.specs.Words.{is_some_and}
 use Rattle.trace_events.specs.Event.{Outgoing}
 use Rattle.trace_events.specs.History.{history, judge}
-use Rattle.trace_clauses.specs.Written.{spoken_octets}
-use Rattle.trace_clauses.proofs.Made.{from, carry, first, next, as_settled, disposes, accepted, released, hi, sent, sent_by, half, rest, half_carried, whole, carried, pre_settled, accepts, settles, finishes, tells, router_settles, consumer_leaves, gives_more}
+use Rattle.trace_events.specs.Written.{spoken_octets}
+use Rattle.trace_events.proofs.Made.{from, carry, first, next, as_settled, disposes, accepted, released, hi, sent, sent_by, half, rest, half_carried, whole, carried, pre_settled, accepts, settles, finishes, tells, router_settles, consumer_leaves, gives_more}
 use Rattle.state_outgoing.specs.Sent.{Sent, sent_at, sent_next, sent_begun, sent_behind, begins_number, ends_delivery, decided_with, takes_state, to_settle, goes_on_with}
 use Rattle.number_groups.specs.Ids.{same_id}
 use Rattle.state_outgoing.specs.SentGrouped.{is_of_link, is_of_session, has_id}

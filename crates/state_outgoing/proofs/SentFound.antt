@@ -16,8 +16,8 @@ use Rattle.trace_events.specs.Ends.{ends_link}
 use Rattle.trace_events.specs.Link.{IsLiveLink, is_live, is_receiver}
 use Rattle.trace_events.specs.Outgoing.{is_part, answering, is_settled_by_consumer, is_settled_by_router}
 use Rattle.trace_events.proofs.Judged.{AreJudged}
-use Rattle.trace_clauses.proofs.LinkEnds.{lives-live}
-use Rattle.trace_clauses.proofs.WaitingQueue.{contains_none, contains_cases}
+use Rattle.trace_events.proofs.LinkEnds.{lives-live}
+use Rattle.trace_events.proofs.WaitingQueue.{contains_none, contains_cases}
 use Rattle.state_outgoing.specs.Sent.{Sent, sent_at}
 use Rattle.number_groups.specs.Ids.{same_id}
 use Rattle.state_outgoing.specs.SentGrouped.{AreGrouped, is_of_link, is_of_session, has_id}

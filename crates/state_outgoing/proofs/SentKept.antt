@@ -9,7 +9,7 @@ use Rattle.trace_events.specs.Words.{is_some_and, or_else}
 use Rattle.trace_events.specs.Event.{Event, Outgoing}
 use Rattle.trace_events.specs.Outgoing.{is_sent, outgoing_begun, outgoing_deliveries, outgoing_at}
 use Rattle.trace_events.proofs.Judged.{AreJudged}
-use Rattle.trace_clauses.proofs.WaitingQueue.{all_contained, contains_cases, find_has}
+use Rattle.trace_events.proofs.WaitingQueue.{all_contained, contains_cases, find_has}
 use Rattle.state_tables.specs.LetGo.{is_let_go, names_let_go}
 use Rattle.state_outgoing.specs.LetGo.{where_kept, kept_at, is_finished, is_done}
 use Rattle.state_outgoing.specs.Sent.{Sent, sent, is_left_unsettled, sent_at, sent_next, sent_begun, sent_behind, begins_number, decided_with, ends_delivery, unsent, verdict_of, verdict_said}

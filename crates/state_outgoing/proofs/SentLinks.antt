@@ -23,10 +23,10 @@ use Rattle.trace_events.proofs.LinkLives.{judged-stands}
 use Rattle.trace_events.proofs.LinkNumbers.{own_link-number}
 use Rattle.trace_events.proofs.Opens.{opened-link}
 use Rattle.trace_events.proofs.OutgoingLinks.{IsOnEarlier, judged-on_earlier}
-use Rattle.trace_clauses.proofs.LinkEnds.{is_live-next}
-use Rattle.trace_clauses.proofs.LiveLinks.{placed-names}
-use Rattle.trace_clauses.proofs.OutgoingProgress.{IsPartOf, judged-outgoing_part}
-use Rattle.trace_clauses.proofs.Parts.{all_such, found_holds}
+use Rattle.trace_events.proofs.LinkEnds.{is_live-next}
+use Rattle.trace_events.proofs.LiveLinks.{placed-names}
+use Rattle.trace_events.proofs.OutgoingProgress.{IsPartOf, judged-outgoing_part}
+use Rattle.trace_events.proofs.Parts.{all_such, found_holds}
 
 known : {A : Type 0} (P : A → Type 0) (o : Option A) (x : A) → o ≡ Some x → IfSome o P → P x
 known P o x is h = subst (λ (p : Option _). IfSome p P) is h

@@ -8,7 +8,7 @@ use lib.Pointwise.{pointwise}
 use Rattle.pairing_cert.specs.declared.note.Note.{Note}
 use Rattle.capture_form.specs.declared.records.Record.{Record}
 use Rattle.capture_form.specs.Rules.{RuleSet}
-use Rattle.trace_clauses.specs.declared.clause.Clause.TheVariants.{L6}
+use Rattle.trace_events.specs.declared.clause.Clause.TheVariants.{L6}
 use Rattle.trace_events.specs.Words.{is_some_and}
 use Rattle.trace_events.specs.Frame.{Frame, Spoken, spoken_in}
 use Rattle.trace_events.specs.Event.{Event, Incoming, Outgoing, out_frame}
@@ -24,15 +24,15 @@ use Rattle.trace_events.proofs.Fates.{complete-stays}
 use Rattle.trace_events.proofs.Judged.{AreJudged, IsTransfer, judged-born, judged-number, judged-transfer, history-judged}
 use Rattle.trace_events.proofs.Links.{passing}
 use Rattle.trace_events.proofs.OutgoingSteps.{payload-same}
-use Rattle.trace_clauses.specs.Clauses.{first_broken, meaning_meets}
-use Rattle.trace_clauses.specs.Kept.{AreFirst}
-use Rattle.trace_clauses.specs.TransferClause.{goes_on_with, is_same_note, is_payload_so_far}
-use Rattle.trace_clauses.proofs.ClausesMet.{met, lawful-past}
-use Rattle.trace_clauses.proofs.Incomings.{complete-payload, judged-part, judged-sound, at-step}
-use Rattle.trace_clauses.proofs.JudgedHistories.{judged-keeps}
-use Rattle.trace_clauses.proofs.OutgoingProgress.{IsPartOf, judged-outgoing_part, judged-carrying, noted_pair}
-use Rattle.trace_values.specs.Known.{IsCarriedBy}
-use Rattle.trace_clauses.proofs.SameNotes.{by_note}
+use Rattle.trace_events.specs.Clauses.{first_broken, meaning_meets}
+use Rattle.trace_events.specs.Kept.{AreFirst}
+use Rattle.trace_events.specs.TransferClause.{goes_on_with, is_same_note, is_payload_so_far}
+use Rattle.trace_events.proofs.ClausesMet.{met, lawful-past}
+use Rattle.trace_events.proofs.Incomings.{complete-payload, judged-part, judged-sound, at-step}
+use Rattle.trace_events.proofs.JudgedHistories.{judged-keeps}
+use Rattle.trace_events.proofs.OutgoingProgress.{IsPartOf, judged-outgoing_part, judged-carrying, noted_pair}
+use Rattle.trace_events.specs.Known.{IsCarriedBy}
+use Rattle.trace_events.proofs.SameNotes.{by_note}
 use Rattle.state_outgoing.specs.Sent.{Sent, sent, sent_at, IsEntry, IsKnownTo}
 use Rattle.state_outgoing.specs.Sent as kept
 use Rattle.state_outgoing.proofs.SentBegun.{at-number, found-below, payload-none}

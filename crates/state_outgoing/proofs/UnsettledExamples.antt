@@ -11,8 +11,8 @@ use Rattle.capture_form.specs.Rules.{no_rules}
 use Rattle.trace_events.specs.Frame.{frame_read}
 use Rattle.trace_events.specs.History.{history}
 use Rattle.trace_events.specs.Link.{link_at}
-use Rattle.trace_clauses.specs.Written.{spoken_octets}
-use Rattle.trace_clauses.proofs.Made.{accepted, carry, detach_of, disposes, first, from, from_with, hi, sent}
+use Rattle.trace_events.specs.Written.{spoken_octets}
+use Rattle.trace_events.proofs.Made.{accepted, carry, detach_of, disposes, first, from, from_with, hi, sent}
 use Rattle.state_outgoing.specs.UnsettledCount.{unsettled_count}
 
 -- on the link that is attached in the record of this number

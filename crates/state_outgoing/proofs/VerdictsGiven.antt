@@ -12,11 +12,11 @@ use Rattle.trace_events.specs.Incoming.{incoming_at, incoming_deliveries}
 use Rattle.trace_events.specs.Link.{link_at, links}
 use Rattle.trace_events.specs.Outgoing.{outgoing_deliveries, outgoing_at, decision, names}
 use Rattle.trace_events.proofs.Judged.{AreJudged}
-use Rattle.trace_clauses.specs.Clauses.{first_broken}
-use Rattle.trace_clauses.specs.Outcome.{is_sent_settled}
-use Rattle.trace_clauses.specs.BestVerdict.{is_same_outcome}
-use Rattle.trace_clauses.specs.CopyVerdict.{awaits_now, begun_verdict, copy_on, sent_verdict}
-use Rattle.trace_clauses.proofs.OneCopy.{awaits-many, fresh-copy, one-copy}
+use Rattle.trace_events.specs.Clauses.{first_broken}
+use Rattle.trace_events.specs.Outcome.{is_sent_settled}
+use Rattle.trace_events.specs.BestVerdict.{is_same_outcome}
+use Rattle.trace_events.specs.CopyVerdict.{awaits_now, begun_verdict, copy_on, sent_verdict}
+use Rattle.trace_events.proofs.OneCopy.{awaits-many, fresh-copy, one-copy}
 use Rattle.state_outgoing.specs.Given.{gives}
 use Rattle.state_outgoing.specs.LetGo.{where_kept, kept_at, is_finished}
 use Rattle.state_outgoing.specs.Sent.{Sent, sent, sent_at, sent_begun, sent_next, verdict_of, verdict_said}

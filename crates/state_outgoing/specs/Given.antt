@@ -3,7 +3,7 @@ use Rattle.std.specs.Prelude.{ℕ, Bool, ◌&&◌, Option, ◌==◌}
 use Rattle.amqp_perf.specs.declared.descriptor.Outcome.{Outcome}
 use Rattle.trace_events.specs.Words.{is_some_and}
 use Rattle.trace_events.specs.Outgoing.{names}
-use Rattle.trace_clauses.specs.BestVerdict.{is_same_outcome}
+use Rattle.trace_events.specs.BestVerdict.{is_same_outcome}
 use Rattle.state_verdicts.specs.Verdicts.{is_verdict_of}
 use Rattle.state_verdicts.specs.declared.verdicts.CopyVerdict.{CopyVerdict}
 use Rattle.state_outgoing.specs.Sent.{Sent, verdict_of}

@@ -3,7 +3,7 @@ use Rattle.std.specs.Prelude.{ℕ, Bool, not, List, ◌∷◌, Option, Some, opt
 use Rattle.trace_events.specs.Words.{is_some_and, where_passes}
 use Rattle.trace_events.specs.Event.{Event, Outgoing}
 use Rattle.trace_events.specs.Outgoing.{outgoing_begun, outgoing_deliveries, names}
-use Rattle.trace_clauses.specs.Kept.{carriers}
+use Rattle.trace_events.specs.Kept.{carriers}
 use Rattle.state_tables.specs.LetGo.{names_let_go}
 
 -- ---- on the link of a number

@@ -15,7 +15,7 @@ use Rattle.trace_events.specs.Incoming.{part_payload}
 use Rattle.trace_events.specs.Outgoing as law
 use Rattle.trace_events.specs.Outgoing.{is_part, outgoing_begun, outgoing_at, answering}
 use Rattle.trace_events.specs.Work.{stands_unsettled, keeps_unsettled}
-use Rattle.trace_clauses.specs.TransferClause as clause
+use Rattle.trace_events.specs.TransferClause as clause
 
 -- A delivery to a client with what the law says of it: how many octets of its payload were sent, counted in 64 bits;
 -- whether its last part is written; the terminal state of its consumer's decision, if there is a decision; whether it is

@@ -3,7 +3,7 @@
 ghost use Rattle.std.specs.Prelude.{◌≡◌, List, [], IfSome, Some, None, is_some, option_and_then, option_map, false};
 ghost use Rattle.capture_form.specs.Rules.{RuleSet};
 ghost use Rattle.capture_form.specs.declared.records.Record.{Record};
-ghost use Rattle.trace_clauses.specs.TransferClause as transfers;
+ghost use Rattle.trace_events.specs.TransferClause as transfers;
 ghost use Rattle.trace_events.specs.Disposition.{terminal_state};
 ghost use Rattle.trace_events.specs.History.{history};
 ghost use Rattle.trace_events.specs.Incoming.{incoming_at};
@@ -15,15 +15,14 @@ ghost use Rattle.state_outgoing.specs.SentAnswers as entries;
 ghost use Rattle.state_outgoing.specs.SentAnswers.{AreClosings, Knows, KnowsOrBegins};
 ghost use Rattle.state_outgoing.specs.SentTables.{AreSent, IsTable, sent_in};
 ghost use Rattle.state_outgoing.specs.UnsettledCount as counts;
-ghost use Rattle.trace_values.specs.View.{decision_view, incoming_view, link_view, outgoing_view};
+ghost use Rattle.trace_events.specs.View.{decision_view, incoming_view, link_view, outgoing_view};
 
 use crate::closings::{Closings, Settleable};
 use crate::deliveries::SentDeliveries;
 use crate::earliest::least;
 use number_groups::IdOn;
 use pairing_cert::Note;
-use trace_events::Session;
-use trace_values::{Decision, Incoming, Link, Outgoing};
+use trace_events::{Decision, Incoming, Link, Outgoing, Session};
 
 impl SentDeliveries {
     /// The delivery of a consumer's link whose last part isn't written yet. `None` where there is none.

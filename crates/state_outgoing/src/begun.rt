@@ -6,13 +6,13 @@ ghost use Rattle.state_outgoing.specs.Carriers.{listed, carriers_in};
 ghost use Rattle.state_outgoing.specs.LastBegun.{on_link_next, carriers_next};
 ghost use Rattle.state_outgoing.specs.SentTables.{AreBegun};
 ghost use Rattle.trace_events.specs.Words.{is_number};
-ghost use Rattle.trace_values.specs.View.{event_view};
+ghost use Rattle.trace_events.specs.View.{event_view};
 
 use crate::carriers::Carriers;
 use number_map::NumberMap;
 use pairing_cert::Note;
 use std::alloc::{AllocError, Global};
-use trace_values::Event;
+use trace_events::Event;
 
 /// The numbers of the deliveries that began last, by the number of their link; and of all that began, by the number of the
 /// delivery from a client that their note names. Of what carries a delivery that was let go there is neither.

@@ -3,11 +3,11 @@
 ghost use Rattle.std.specs.Prelude.{◌≡◌, IfOk, OnErr, is_some, true};
 ghost use Rattle.state_outgoing.specs.Sent.{outcome_of};
 ghost use Rattle.state_outgoing.specs.SentViews.{decided_view};
-ghost use Rattle.trace_values.specs.View.{decision_view};
+ghost use Rattle.trace_events.specs.View.{decision_view};
 
 use amqp_perf::Outcome;
 use std::alloc::{AllocError, Global};
-use trace_values::Decision;
+use trace_events::Decision;
 
 /// What a consumer decided.
 #[doc(hidden)]

@@ -13,8 +13,8 @@ ghost use Rattle.trace_events.specs.Event.{Incoming, Outgoing};
 ghost use Rattle.trace_events.specs.Incoming as received;
 ghost use Rattle.trace_events.specs.Outgoing as law;
 ghost use Rattle.trace_events.specs.History.{judge, history};
-ghost use Rattle.trace_clauses.specs.Clauses.{first_broken};
-ghost use Rattle.trace_clauses.specs.TransferClause.{is_payload_so_far};
+ghost use Rattle.trace_events.specs.Clauses.{first_broken};
+ghost use Rattle.trace_events.specs.TransferClause.{is_payload_so_far};
 ghost use Rattle.state_tables.specs.Connections.{IsLawfulNext};
 ghost use Rattle.state_tables.specs.ConsumerLinks.{link_in};
 ghost use Rattle.state_tables.specs.EndedLinks.{AreEnded};
@@ -31,8 +31,8 @@ ghost use Rattle.state_outgoing.specs.SentGrouped.{AreGrouped};
 ghost use Rattle.state_outgoing.specs.SentTables.{AreMovedBy, AreSent, IsTable, MovesAt, is_done_in, is_last_in, last_without, sent_in, sent_count_in};
 ghost use Rattle.state_outgoing.specs.SentTouched.{answered_id, is_spoken_of};
 ghost use Rattle.state_outgoing.specs.SentViews.{sent_view};
-ghost use Rattle.trace_values.specs.Known.{IsCarriedBy};
-ghost use Rattle.trace_values.specs.View.{Events, event_view, link_view};
+ghost use Rattle.trace_events.specs.Known.{IsCarriedBy};
+ghost use Rattle.trace_events.specs.View.{Events, event_view, link_view};
 
 use crate::begun::LastNumbers;
 use crate::carriers::Carriers;
@@ -46,7 +46,7 @@ use number_map::NumberMap;
 use state_tables::ConsumerLinks;
 use state_verdicts::CopyVerdict;
 use std::alloc::{AllocError, Global};
-use trace_values::{Event, Link};
+use trace_events::{Event, Link};
 
 /// The deliveries to clients.
 pub struct SentDeliveries {

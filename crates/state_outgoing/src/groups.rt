@@ -4,11 +4,11 @@ ghost use Rattle.std.specs.Prelude.{◌≡◌, ◌<◌, ◌^◌, ℕ, None, IfSo
 ghost use Rattle.number_groups.specs.Groups.{is_member};
 ghost use Rattle.number_groups.specs.Ids.{same_id};
 ghost use Rattle.state_outgoing.specs.SentGrouped.{AreGrouped, IsPut};
-ghost use Rattle.trace_values.specs.View.{outgoing_view};
+ghost use Rattle.trace_events.specs.View.{outgoing_view};
 
 use number_groups::{Groups, IdOn};
 use std::alloc::{AllocError, Global};
-use trace_values::Outgoing;
+use trace_events::Outgoing;
 
 /// The numbers of the deliveries that are unsettled, in groups.
 #[doc(hidden)]

@@ -15,14 +15,14 @@ ghost use Rattle.trace_events.specs.Outgoing as law;
 ghost use Rattle.trace_events.specs.Settling as settling;
 ghost use Rattle.trace_events.specs.Work as work;
 ghost use Rattle.trace_events.specs.History.{history};
-ghost use Rattle.trace_clauses.specs.Clauses.{first_broken};
-ghost use Rattle.trace_clauses.specs.TransferClause.{is_payload_so_far};
+ghost use Rattle.trace_events.specs.Clauses.{first_broken};
+ghost use Rattle.trace_events.specs.TransferClause.{is_payload_so_far};
 ghost use Rattle.state_outgoing.specs.Given.{gives, says};
 ghost use Rattle.state_outgoing.specs.LetGo.{is_done, is_finished};
 ghost use Rattle.state_outgoing.specs.Sent as kept;
 ghost use Rattle.state_outgoing.specs.Sent.{IsEntry, SentFollows, SentBegins};
 ghost use Rattle.state_outgoing.specs.SentViews.{sent_view, decided_view};
-ghost use Rattle.trace_values.specs.View.{Events, decision_view, event_view, outgoing_view};
+ghost use Rattle.trace_events.specs.View.{Events, decision_view, event_view, outgoing_view};
 
 use crate::decided::Decided;
 use crate::payload::goes_on_with;
@@ -31,7 +31,7 @@ use pairing_cert::Note;
 use state_tables::HeldLink;
 use state_verdicts::CopyVerdict;
 use std::alloc::{AllocError, Global};
-use trace_values::{Decision, Event, Outgoing, is_decisive};
+use trace_events::{Decision, Event, Outgoing, is_decisive};
 
 /// A delivery to a client.
 #[doc(hidden)]

@@ -8,14 +8,14 @@ ghost use Rattle.number_groups.specs.Groups.{is_member};
 ghost use Rattle.trace_events.specs.Words.{is_some_and};
 ghost use Rattle.number_groups.specs.Ids.{same_id};
 ghost use Rattle.state_outgoing.specs.SentTouched as law;
-ghost use Rattle.trace_values.specs.View.{event_view, link_view};
+ghost use Rattle.trace_events.specs.View.{event_view, link_view};
 
 use crate::groups::SentGroups;
 use amqp_perf::{Disposition, Role};
 use number_groups::{Groups, IdOn, NumberSet};
 use state_tables::{add_group, add_number};
 use std::alloc::{AllocError, Global};
-use trace_values::{Event, Link};
+use trace_events::{Event, Link};
 
 /// All numbers of the group of an id come in.
 fn add_group_of_id(

@@ -1,6 +1,6 @@
 use Rattle.std.proofs.Common.{◌≡◌, ap, sym, ◌∙◌, ℕ, None, Some, IfSome, refl, subst, if◌then◌else◌, ◌==◌, ◌<◌, ◌^◌, rules}
 use Rattle.trace_events.specs.Event.{Outgoing}
-use Rattle.trace_values.specs.View.{event_view, outgoing_view}
+use Rattle.trace_events.specs.View.{event_view, outgoing_view}
 use Rattle.state_outgoing.specs.SentGrouped.{IsPut}
 use Rattle.state_outgoing.specs.Sent.{sent_begun}
 use Rattle.state_outgoing.specs.SentViews.{sent_view}

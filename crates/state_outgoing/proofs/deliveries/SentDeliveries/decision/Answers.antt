@@ -1,7 +1,7 @@
 use Rattle.std.proofs.Common.{◌∙◌}
 use Rattle.trace_events.specs.History.{history}
 use Rattle.trace_events.proofs.Judged.{history-judged}
-use Rattle.trace_values.specs.View.{outgoing_view}
+use Rattle.trace_events.specs.View.{outgoing_view}
 use Rattle.state_outgoing.proofs.AnswersKnown.{decision-known}
 use Rattle.state_outgoing.proofs.deliveries.SentDeliveries.decision.Goals as goal
 

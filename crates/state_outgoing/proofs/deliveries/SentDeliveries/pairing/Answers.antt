@@ -2,7 +2,7 @@ use Rattle.std.proofs.Common.{sym, subst, Option, IfSome, ◌∙◌}
 use Rattle.trace_events.specs.Event.{Outgoing}
 use Rattle.trace_events.specs.History.{history}
 use Rattle.trace_events.proofs.Judged.{history-judged}
-use Rattle.trace_values.specs.View.{incoming_view}
+use Rattle.trace_events.specs.View.{incoming_view}
 use Rattle.state_outgoing.specs.SentAnswers.{Knows}
 use Rattle.state_outgoing.proofs.AnswersKnown.{given-known, pairing-table}
 use Rattle.state_outgoing.proofs.deliveries.SentDeliveries.pairing.Goals as goal

@@ -1,6 +1,6 @@
 use Rattle.trace_events.specs.History.{history}
 use Rattle.trace_events.proofs.Judged.{history-judged}
-use Rattle.trace_values.specs.View.{event_view}
+use Rattle.trace_events.specs.View.{event_view}
 use Rattle.state_outgoing.proofs.SpokenAmong.{speaks-among}
 use Rattle.state_outgoing.proofs.deliveries.SentDeliveries.spoken_by.Goals as goal
 

@@ -2,7 +2,7 @@ use Rattle.std.proofs.Common.{ap, sym, ◌∙◌, ℕ, List}
 use Rattle.number_groups.specs.Numbers.{is_among}
 use Rattle.trace_events.specs.History.{history}
 use Rattle.trace_events.proofs.Judged.{history-judged}
-use Rattle.trace_values.specs.View.{event_view}
+use Rattle.trace_events.specs.View.{event_view}
 use Rattle.state_outgoing.proofs.SpokenAmong.{speaks-among}
 use Rattle.state_outgoing.proofs.SpokenNone.{no-count, none-spoken}
 use Rattle.state_outgoing.proofs.deliveries.SentDeliveries.spoken_of.Goals as goal

@@ -2,7 +2,7 @@ use Rattle.std.proofs.Common.{ap, refl, ◌∙◌, ◌||◌, List, arith}
 use Rattle.std.specs.List.{list_any}
 use Rattle.state_verdicts.specs.declared.verdicts.CopyVerdict.{CopyVerdict}
 use Rattle.number_groups.specs.Numbers.{is_among}
-use Rattle.trace_values.specs.View.{event_view}
+use Rattle.trace_events.specs.View.{event_view}
 use Rattle.state_outgoing.specs.Given.{gives, says}
 use Rattle.state_outgoing.specs.SentTables.{sent_in}
 use Rattle.state_outgoing.proofs.SentTaken.{nothing-moved, all-moved, still-within, one-more, here, on, popped-in, none-left, said-one, said-all}

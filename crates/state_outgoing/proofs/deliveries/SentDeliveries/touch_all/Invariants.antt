@@ -2,7 +2,7 @@ use Rattle.std.proofs.Common.{◌≡◌, ℕ, true, ◌&&◌, ◌||◌, not, len
 use Rattle.std.specs.List.{list_any}
 use Rattle.amqp_perf.specs.declared.descriptor.Outcome.{Outcome}
 use Rattle.number_groups.specs.Numbers.{is_among}
-use Rattle.trace_values.specs.View.{event_view}
+use Rattle.trace_events.specs.View.{event_view}
 use Rattle.state_outgoing.specs.Given.{gives, says}
 use Rattle.state_outgoing.specs.Sent.{sent_next}
 use Rattle.state_outgoing.specs.SentGrouped.{AreGrouped}

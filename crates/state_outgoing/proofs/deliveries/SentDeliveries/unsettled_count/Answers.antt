@@ -1,7 +1,7 @@
 use Rattle.std.proofs.Common.{◌∙◌}
 use Rattle.trace_events.specs.History.{history}
 use Rattle.trace_events.proofs.Judged.{history-judged}
-use Rattle.trace_values.specs.View.{link_view}
+use Rattle.trace_events.specs.View.{link_view}
 use Rattle.state_outgoing.proofs.UnsettledCount.{count-table}
 use Rattle.state_outgoing.proofs.deliveries.SentDeliveries.unsettled_count.Goals as goal
 

@@ -1,7 +1,7 @@
 use Rattle.std.proofs.Common.{nat_eq}
 use Rattle.number_groups.specs.Numbers.{is_among}
 use Rattle.number_groups.specs.Groups.{is_member}
-use Rattle.trace_values.specs.View.{link_view}
+use Rattle.trace_events.specs.View.{link_view}
 use Rattle.state_tables.proofs.GroupLists.{nothing-yet, each-more, each-in}
 use Rattle.state_outgoing.proofs.groups.SentGroups.add_all_of.Goals as goal
 

@@ -2,7 +2,7 @@ use Rattle.std.proofs.Common.{ap, nat_eq, subst, IfSome, ◌<◌, ◌^◌}
 use Rattle.std.specs.List.{list_any}
 use Rattle.number_groups.specs.Groups.{is_member}
 use Rattle.trace_events.specs.Words.{is_number, is_some_and}
-use Rattle.trace_values.specs.View.{link_view}
+use Rattle.trace_events.specs.View.{link_view}
 use Rattle.number_groups.specs.Ids.{same_id}
 use Rattle.state_tables.proofs.GroupLists.{any-map, five-in}
 use Rattle.state_outgoing.proofs.groups.SentGroups.touched.Goals as goal

@@ -1,5 +1,5 @@
 use Rattle.std.proofs.Common.{option_map}
-use Rattle.trace_values.specs.View.{event_view}
+use Rattle.trace_events.specs.View.{event_view}
 use Rattle.state_outgoing.specs.SentViews.{sent_view}
 use Rattle.state_outgoing.proofs.SentKnown.{begins}
 use Rattle.state_outgoing.proofs.sent.SentDelivery.begin.Goals as goal

@@ -1,4 +1,4 @@
-use Rattle.trace_values.specs.View.{event_view}
+use Rattle.trace_events.specs.View.{event_view}
 use Rattle.state_outgoing.specs.SentViews.{sent_view}
 use Rattle.state_outgoing.proofs.SentKnown.{follows}
 use Rattle.state_outgoing.proofs.sent.SentDelivery.take.Goals as goal
