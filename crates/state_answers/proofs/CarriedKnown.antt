@@ -5,7 +5,7 @@ use Rattle.pairing_cert.specs.declared.note.Note.{Note}
 use Rattle.capture_form.specs.Rules.{RuleSet}
 use Rattle.trace_events.specs.Event.{Event, Outgoing, Moment}
 use Rattle.trace_events.specs.History.{judge_unopened, IsHistory}
-use Rattle.trace_values.specs.Known.{CarriesKnown}
+use Rattle.trace_events.specs.Known.{CarriesKnown}
 use Rattle.state_incoming.specs.EntryAnswers.{has_entry}
 use Rattle.state_incoming.specs.HeldTables.{IsTable}
 use Rattle.state_incoming.specs.declared.deliveries.Deliveries.{Deliveries}

@@ -7,8 +7,8 @@ use Rattle.trace_events.specs.Incoming.{incoming_at, incoming_deliveries}
 use Rattle.trace_events.specs.Outgoing.{is_on, noted, outgoing_deliveries}
 use Rattle.trace_events.proofs.Along.{and_then_some}
 use Rattle.trace_events.proofs.Judged.{AreJudged}
-use Rattle.trace_clauses.specs.Clauses.{first_broken}
-use Rattle.trace_clauses.specs.TransferClause.{carried_before}
+use Rattle.trace_events.specs.Clauses.{first_broken}
+use Rattle.trace_events.specs.TransferClause.{carried_before}
 use Rattle.state_tables.specs.LetGo.{is_let_go, names_let_go}
 use Rattle.state_incoming.specs.EntryAnswers.{delivery_in}
 use Rattle.state_incoming.specs.Held.{Held, held, is_held}

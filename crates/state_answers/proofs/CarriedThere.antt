@@ -3,7 +3,7 @@ use Rattle.std.proofs.Common.{◌≡◌, refl, sym, ap, subst, ◌∙◌, inl, i
 use Rattle.amqp_perf.specs.Meaning.{TransferFields}
 use Rattle.pairing_cert.specs.declared.note.Note.TheVariants as notes
 use Rattle.capture_form.specs.Rules.{RuleSet}
-use Rattle.trace_clauses.specs.declared.clause.Clause.TheVariants.{L6}
+use Rattle.trace_events.specs.declared.clause.Clause.TheVariants.{L6}
 use Rattle.trace_events.specs.Words.{is_some_and, where_passes}
 use Rattle.trace_events.specs.Event.{Event, Incoming, Outgoing}
 use Rattle.trace_events.specs.Said.{out_transfer}
@@ -11,11 +11,11 @@ use Rattle.trace_events.specs.Credit.{begins_outgoing}
 use Rattle.trace_events.specs.Outgoing.{noted, outgoing_begun}
 use Rattle.trace_events.proofs.Along.{and_last, some_such}
 use Rattle.trace_events.proofs.Judged.{AreJudged, IsTransfer, judged-number, judged-transfer}
-use Rattle.trace_clauses.specs.Clauses.{first_broken, meaning_meets}
-use Rattle.trace_clauses.specs.TransferClause.{goes_on_with, is_same_note, to_carry}
-use Rattle.trace_clauses.proofs.ClausesMet.{met, lawful-past}
-use Rattle.trace_clauses.proofs.JudgedHistories.{judged-keeps}
-use Rattle.trace_clauses.proofs.OutgoingProgress.{IsPartOf, judged-outgoing_part, judged-carrying, same_note}
+use Rattle.trace_events.specs.Clauses.{first_broken, meaning_meets}
+use Rattle.trace_events.specs.TransferClause.{goes_on_with, is_same_note, to_carry}
+use Rattle.trace_events.proofs.ClausesMet.{met, lawful-past}
+use Rattle.trace_events.proofs.JudgedHistories.{judged-keeps}
+use Rattle.trace_events.proofs.OutgoingProgress.{IsPartOf, judged-outgoing_part, judged-carrying, same_note}
 use Rattle.state_tables.specs.LetGo.{names_let_go}
 use Rattle.state_incoming.specs.EntryAnswers.{Knows}
 use Rattle.state_incoming.specs.HeldTables.{AreHeld, AreOver}

@@ -6,7 +6,7 @@ use Rattle.trace_events.specs.Event.{Event, Incoming, Outgoing}
 use Rattle.trace_events.specs.Outgoing.{noted}
 use Rattle.trace_events.specs.Settling.{is_closed}
 use Rattle.trace_events.proofs.Judged.{AreJudged}
-use Rattle.trace_clauses.specs.Clauses.{first_broken}
+use Rattle.trace_events.specs.Clauses.{first_broken}
 use Rattle.state_incoming.specs.EntryAnswers.{is_shut}
 use Rattle.state_incoming.specs.HeldTables.{AreHeld, AreOver, held_in}
 use Rattle.state_incoming.specs.declared.deliveries.Deliveries.{Deliveries}

@@ -9,8 +9,8 @@ use Rattle.capture_form.specs.declared.records.Record.{Record}
 use Rattle.capture_form.specs.Rules.{no_rules}
 use Rattle.trace_events.specs.Frame.{frame_read}
 use Rattle.trace_events.specs.History.{history}
-use Rattle.trace_clauses.specs.Written.{spoken_octets}
-use Rattle.trace_clauses.proofs.Made.{carry, first, from_with, hi, next, pair, sent, with_more}
+use Rattle.trace_events.specs.Written.{spoken_octets}
+use Rattle.trace_events.proofs.Made.{carry, first, from_with, hi, next, pair, sent, with_more}
 use Rattle.state_answers.specs.Tables.{completed_by_all}
 
 unfoldable completed_in : List Record → ℕ

@@ -10,7 +10,7 @@ use Rattle.trace_events.specs.Link.{IsLiveLink, is_consumer, opened_consumer, ow
 use Rattle.trace_events.specs.Outgoing.{outgoing_begun}
 use Rattle.trace_events.proofs.Judged.{AreJudged}
 use Rattle.trace_events.proofs.LinkNumbers.{own_link-number}
-use Rattle.trace_clauses.proofs.OneConsumer.{passes-some}
+use Rattle.trace_events.proofs.OneConsumer.{passes-some}
 use Rattle.state_tables.specs.ConsumerLinks.{consumer_at, has_link, opened_at, without}
 use Rattle.state_tables.specs.LetGo.{is_let_go, names_let_go}
 use Rattle.state_tables.proofs.ConsumerLinkSteps.{links-next}

@@ -9,10 +9,10 @@ use Rattle.trace_events.specs.Incoming.{is_complete}
 use Rattle.trace_events.specs.Outgoing.{noted, outgoing_begun}
 use Rattle.trace_events.specs.Waiting.{is_gone}
 use Rattle.trace_events.proofs.Judged.{AreJudged}
-use Rattle.trace_clauses.specs.Clauses.{first_broken}
-use Rattle.trace_clauses.specs.TransferClause.{to_carry}
-use Rattle.trace_clauses.proofs.OneConsumer.{passes-some}
-use Rattle.trace_clauses.proofs.OutgoingProgress.{noted_pair}
+use Rattle.trace_events.specs.Clauses.{first_broken}
+use Rattle.trace_events.specs.TransferClause.{to_carry}
+use Rattle.trace_events.proofs.OneConsumer.{passes-some}
+use Rattle.trace_events.proofs.OutgoingProgress.{noted_pair}
 use Rattle.state_tables.specs.LetGo.{is_let_go, names_let_go}
 use Rattle.state_incoming.specs.EntryAnswers.{Knows}
 use Rattle.state_incoming.specs.Held.{Held, held_at}

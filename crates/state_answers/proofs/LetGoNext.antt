@@ -7,8 +7,8 @@ use Rattle.trace_events.specs.Event.{Event, Incoming, Outgoing}
 use Rattle.trace_events.specs.Incoming.{incoming_at}
 use Rattle.trace_events.specs.Outgoing.{names, outgoing_deliveries}
 use Rattle.trace_events.proofs.Judged.{AreJudged}
-use Rattle.trace_clauses.specs.Clauses.{first_broken}
-use Rattle.trace_clauses.proofs.OneConsumer.{some-and}
+use Rattle.trace_events.specs.Clauses.{first_broken}
+use Rattle.trace_events.proofs.OneConsumer.{some-and}
 use Rattle.state_tables.specs.LetGo.{is_let_go}
 use Rattle.state_incoming.specs.Held.{Held, held_at}
 use Rattle.state_incoming.specs.HeldTables.{AreHeld, held_in}

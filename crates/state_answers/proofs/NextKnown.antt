@@ -2,15 +2,15 @@
 use Rattle.std.proofs.Common.{◌≡◌, refl, ◌∙◌, inl, inr, true, List, ◌∷◌, None, IfSome, is_some}
 use Rattle.capture_form.specs.Rules.{RuleSet}
 use Rattle.capture_form.specs.declared.records.Record.{Record}
-use Rattle.trace_clauses.specs.Clauses.{broken_clause, first_broken}
-use Rattle.trace_clauses.specs.LinkClause.{asking}
-use Rattle.trace_clauses.specs.TransferClause.{to_carry}
-use Rattle.trace_clauses.proofs.Unopened.{broken-unopened}
+use Rattle.trace_events.specs.Clauses.{broken_clause, first_broken}
+use Rattle.trace_events.specs.LinkClause.{asking}
+use Rattle.trace_events.specs.TransferClause.{to_carry}
+use Rattle.trace_events.proofs.Unopened.{broken-unopened}
 use Rattle.trace_events.specs.Event.{Event, Outgoing}
 use Rattle.trace_events.specs.History.{judge, judge_unopened, moment_of}
 use Rattle.trace_events.specs.Said.{out_transfer}
 use Rattle.trace_events.specs.Session.{has_unanswered_begin}
-use Rattle.trace_values.specs.Known.{CarriesKnown, OpensKnown}
+use Rattle.trace_events.specs.Known.{CarriesKnown, OpensKnown}
 use Rattle.state_tables.proofs.OpenedKnown.{opens-known}
 use Rattle.state_incoming.specs.EntryAnswers.{Knows, has_entry}
 use Rattle.state_incoming.proofs.GroupAnswers.{judged-of}

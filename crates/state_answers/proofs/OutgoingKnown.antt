@@ -9,7 +9,7 @@ use Rattle.trace_events.specs.Event.{Event, Link, Outgoing, Moment, Out}
 use Rattle.trace_events.specs.Link.{is_consumer, IsLiveLink, NamesLive}
 use Rattle.trace_events.specs.Outgoing.{in_progress}
 use Rattle.trace_events.specs.History.{judge_unopened, placed, heard, faulted, outgoing_by, outgoing_part, new_outgoing}
-use Rattle.trace_clauses.proofs.LiveLinks.{placed-names}
+use Rattle.trace_events.proofs.LiveLinks.{placed-names}
 
 -- it begins behind these events, or is in progress on a live link
 abbrev pub BeginsOrGoesOn : List Event → Outgoing → Type 0

@@ -6,8 +6,8 @@ use Rattle.capture_form.specs.declared.records.Record.{Record}
 use Rattle.capture_form.specs.Rules.{no_rules}
 use Rattle.trace_events.specs.History.{history}
 use Rattle.trace_events.specs.Words.{is_some_and}
-use Rattle.trace_clauses.proofs.Captures.{broken_of}
-use Rattle.trace_clauses.proofs.Made.{from_with, carry, first, hi, sent}
+use Rattle.trace_events.proofs.Captures.{broken_of}
+use Rattle.trace_events.proofs.Made.{from_with, carry, first, hi, sent}
 use Rattle.state_tables.specs.ConsumerLinks.{consumer_at}
 use Rattle.state_incoming.specs.HeldTables.{held_in, number_at}
 use Rattle.state_incoming.specs.LetGo.{is_spent}

@@ -15,8 +15,8 @@ use Rattle.trace_events.specs.Settling.{to_tell}
 use Rattle.trace_events.specs.History.{judge_unopened, placed, heard, faulted, told_by, told_part, told_by_role, IsHistory}
 use Rattle.trace_events.proofs.Along.{and_last}
 use Rattle.trace_events.proofs.Judged.{AreJudged}
-use Rattle.trace_clauses.proofs.IncomingProgress.{judged-kept}
-use Rattle.trace_clauses.proofs.Parts.{IsKept, each_delivery, found_holds}
+use Rattle.trace_events.proofs.IncomingProgress.{judged-kept}
+use Rattle.trace_events.proofs.Parts.{IsKept, each_delivery, found_holds}
 use Rattle.state_incoming.specs.EntryAnswers.{has_entry}
 use Rattle.state_incoming.specs.Held.{held, is_held}
 use Rattle.state_incoming.specs.HeldTables.{IsTable}

@@ -4,7 +4,7 @@ use Rattle.std.specs.List.{IsDistinct}
 use Rattle.number_groups.specs.Numbers.{is_among}
 use Rattle.trace_events.specs.Event.{Event, Outgoing}
 use Rattle.trace_events.specs.Outgoing.{answering, outgoing_deliveries}
-use Rattle.trace_values.specs.View.{Events}
+use Rattle.trace_events.specs.View.{Events}
 use Rattle.state_outgoing.specs.Sent.{is_left_unsettled}
 use Rattle.state_tables.specs.EndedLinks.{AreEnded, views}
 use Rattle.state_answers.specs.declared.effects.EventEffects.{EventEffects}

@@ -7,7 +7,7 @@ use Rattle.trace_events.specs.Words.{is_some_and}
 use Rattle.trace_events.specs.Event.{Event}
 use Rattle.trace_events.specs.Incoming.{completed_by}
 use Rattle.trace_events.specs.History.{IsHistory}
-use Rattle.trace_clauses.specs.Clauses.{first_broken}
+use Rattle.trace_events.specs.Clauses.{first_broken}
 use Rattle.state_tables.specs.Connections.{AreKept}
 use Rattle.state_tables.specs.Entries.{capped, entries_of_connections, entries_of_links}
 use Rattle.state_tables.specs.LinkTables.{AreLinked}

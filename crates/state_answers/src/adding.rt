@@ -8,11 +8,11 @@ ghost use Rattle.number_groups.specs.Groups.{is_member};
 ghost use Rattle.number_groups.specs.Numbers.{is_among};
 ghost use Rattle.number_groups.specs.OctetGroups as octets;
 ghost use Rattle.trace_events.specs.Words.{is_number};
-ghost use Rattle.trace_values.specs.View.{link_view};
+ghost use Rattle.trace_events.specs.View.{link_view};
 
 use number_groups::{Ascending, Groups, OctetGroups};
 use std::alloc::AllocError;
-use trace_values::Link;
+use trace_events::Link;
 
 /// The number becomes a candidate, if there is one.
 ///

@@ -6,7 +6,7 @@ ghost use Rattle.amqp_perf.specs.Message.{to_of};
 ghost use Rattle.capture_form.specs.Rules.{RuleSet};
 ghost use Rattle.capture_form.specs.declared.records.Record.{Record};
 ghost use Rattle.trace_events.specs.History.{history};
-ghost use Rattle.trace_values.specs.View.{event_view};
+ghost use Rattle.trace_events.specs.View.{event_view};
 ghost use Rattle.state_tables.specs.Connections.{IsLawfulNext};
 ghost use Rattle.state_tables.specs.Addressed.{IsAddressed};
 ghost use Rattle.state_answers.specs.Completed.{octets_of};
@@ -14,7 +14,7 @@ ghost use Rattle.state_incoming.specs.HeldTables.{IsTable};
 
 use amqp_cuts::{Address, Parts};
 use state_incoming::{Deliveries, payload_of};
-use trace_values::Event;
+use trace_events::Event;
 
 /// The address of the delivery that an event completes; that of any other event is empty.
 #[derive(Clone, Copy, Debug)]

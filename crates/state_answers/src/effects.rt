@@ -4,7 +4,7 @@ ghost use Rattle.std.specs.Prelude.{◌≡◌, List, IfOk};
 ghost use Rattle.capture_form.specs.Rules.{RuleSet};
 ghost use Rattle.capture_form.specs.declared.records.Record.{Record};
 ghost use Rattle.trace_events.specs.History.{history};
-ghost use Rattle.trace_values.specs.View.{event_view};
+ghost use Rattle.trace_events.specs.View.{event_view};
 ghost use Rattle.state_tables.specs.Connections.{IsLawfulNext};
 ghost use Rattle.state_answers.specs.Tables.{TellsOf};
 ghost use Rattle.state_answers.specs.Effects.{AreEffects};
@@ -12,7 +12,7 @@ ghost use Rattle.state_answers.specs.Effects.{AreEffects};
 use crate::LentTables;
 use crate::listed::listed;
 use std::alloc::{AllocError, Global};
-use trace_values::{Event, Link};
+use trace_events::{Event, Link};
 
 /// What an event does to links and deliveries.
 #[derive(Drop)]

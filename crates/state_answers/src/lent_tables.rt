@@ -9,9 +9,8 @@ use state_incoming::Deliveries;
 use state_outgoing::SentDeliveries;
 use state_tables::{Connections, ConsumerLinks, Consumers, Copies, Links};
 use state_verdicts::Verdicts;
-use trace_events::Session;
+use trace_events::{Asking, Incoming, Link, Session};
 use trace_judge::{Counts, History, Inputs, Openings, Questions};
-use trace_values::{Asking, Incoming, Link};
 
 /// The tables, lent. `consumers` has the live links of consumers by address, and `consumer_links` the same links by number;
 /// `deliveries` are those from clients, `sent` those to clients; `copies` has what of multicast is to be sent, and `verdicts`
@@ -30,7 +29,7 @@ pub struct LentTables<'t> {
 
 impl<'t> History for LentTables<'t> {
     ghost use Rattle.std.specs.Prelude.{◌≡◌, is_some, true};
-    ghost use Rattle.trace_clauses.specs.LinkClause.{asking};
+    ghost use Rattle.trace_events.specs.LinkClause.{asking};
     ghost use Rattle.trace_events.specs.Session.{has_unanswered_begin};
     ghost use Rattle.state_answers.specs.Tables.{IsWhole, KeepsLast, StandFor};
     ghost use Rattle.state_incoming.specs.EntryAnswers.{Knows, has_entry};

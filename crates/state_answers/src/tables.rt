@@ -8,7 +8,7 @@ ghost use Rattle.state_tables.specs.Addressed.{IsAddressed};
 ghost use Rattle.state_tables.specs.Connections.{IsLawfulNext};
 ghost use Rattle.state_answers.specs.Tables.{AreTables, AreWhole, IsReady, IsToGo, IsTurnOfLast, IsWhole, KeepsLast, LetsGoAtMost, StandFor, completed_with, entries_of, kept_in, turn_behind};
 ghost use Rattle.state_incoming.specs.HeldTables.{number_at};
-ghost use Rattle.trace_values.specs.View.{Events, event_view};
+ghost use Rattle.trace_events.specs.View.{Events, event_view};
 
 use crate::completed::completed_for;
 use crate::lent_tables::LentTables;
@@ -18,7 +18,7 @@ use state_outgoing::SentDeliveries;
 use state_tables::{Connections, ConsumerLinks, Consumers, Copies, Links, receivers_of};
 use state_verdicts::Verdicts;
 use std::alloc::{AllocError, Global};
-use trace_values::Event;
+use trace_events::Event;
 
 /// What the records so far have come to.
 pub struct Tables {

@@ -3,8 +3,8 @@
 use crate::lent_tables::LentTables;
 use capture_form::RuleSet;
 use pairing_cert::Note;
+use trace_events::{Incoming, Link, Outgoing};
 use trace_judge::Carriage;
-use trace_values::{Incoming, Link, Outgoing};
 
 impl<'t> Carriage<'t> for LentTables<'t> {
     fn outgoing_in_progress(&self, link: &Link) -> Option<Outgoing<'t>> {

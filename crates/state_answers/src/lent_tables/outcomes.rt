@@ -4,9 +4,8 @@ use crate::closings::HeldClosings;
 use crate::lent_tables::LentTables;
 use amqp_perf::Outcome;
 use capture_form::RuleSet;
-use trace_events::Session;
+use trace_events::{Decision, Incoming, Link, Outgoing, Session};
 use trace_judge::Outcomes;
-use trace_values::{Decision, Incoming, Link, Outgoing};
 
 impl<'t> Outcomes<'t> for LentTables<'t> {
     fn to_tell(&self, _rules: &RuleSet, session: Session, id: u32) -> Option<Incoming<'t>> {

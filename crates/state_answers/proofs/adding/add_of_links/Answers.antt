@@ -2,7 +2,7 @@ use Rattle.std.proofs.Common.{nat_eq}
 use Rattle.std.proofs.lemmas.Result.{err_from_is_err_and}
 use Rattle.number_groups.specs.Ascending.{has}
 use Rattle.number_groups.specs.Groups.{is_member}
-use Rattle.trace_values.specs.View.{link_view}
+use Rattle.trace_events.specs.View.{link_view}
 use Rattle.state_tables.proofs.GroupLists.{nothing-yet, each-more, each-in, some-of}
 use Rattle.state_answers.proofs.adding.add_of_links.Goals as goal
 

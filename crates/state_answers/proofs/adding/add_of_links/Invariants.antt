@@ -2,7 +2,7 @@ use Rattle.std.proofs.Common.{◌≡◌, ℕ, ◌||◌, nat_eq, take}
 use Rattle.std.specs.List.{list_any}
 use Rattle.number_groups.specs.Ascending.{has}
 use Rattle.number_groups.specs.Groups.{is_member}
-use Rattle.trace_values.specs.View.{link_view}
+use Rattle.trace_events.specs.View.{link_view}
 use Rattle.state_answers.proofs.adding.add_of_links.Given as goal
 
 abbrev pub invariant-loop-link : goal.invariant-loop-link

@@ -5,7 +5,7 @@ use Rattle.trace_events.specs.Link.{is_anonymous}
 use Rattle.trace_events.specs.Said.{in_spoken}
 use Rattle.trace_events.specs.History.{history}
 use Rattle.trace_events.proofs.Judged.{AreJudged, history-judged}
-use Rattle.trace_values.specs.View.{event_view, incoming_view}
+use Rattle.trace_events.specs.View.{event_view, incoming_view}
 use Rattle.state_answers.specs.Completed.{octets_of}
 use Rattle.state_incoming.specs.EntryAnswers.{payload_of}
 use Rattle.state_incoming.specs.HeldTables.{held_in}

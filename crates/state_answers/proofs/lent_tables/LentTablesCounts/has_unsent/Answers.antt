@@ -2,7 +2,7 @@ use Rattle.std.proofs.Common.{◌≡◌, sym, subst, List}
 use Rattle.trace_events.specs.Due.{has_unsent}
 use Rattle.trace_events.specs.Event.{Event}
 use Rattle.trace_events.specs.Link.{IsLiveLink}
-use Rattle.trace_values.specs.View.{link_view}
+use Rattle.trace_events.specs.View.{link_view}
 use Rattle.state_tables.specs.Copies.{AreCopies}
 use Rattle.state_answers.proofs.lent_tables.LentTablesCounts.has_unsent.Goals as goal
 

@@ -1,6 +1,6 @@
 use Rattle.std.proofs.Common.{sym, subst}
 use Rattle.trace_events.specs.History.{history}
-use Rattle.trace_values.specs.View.{event_view}
+use Rattle.trace_events.specs.View.{event_view}
 use Rattle.state_tables.specs.Addressed.{IsAddressed}
 use Rattle.state_answers.proofs.tables.Tables.take.Goals as goal
 

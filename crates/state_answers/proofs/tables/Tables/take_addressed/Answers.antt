@@ -1,9 +1,9 @@
 use Rattle.std.proofs.Common.{refl, sym, subst, ◌∙◌, ◌∷◌, ℕ, List}
 use Rattle.trace_events.specs.History.{history}
 use Rattle.trace_events.proofs.Judged.{AreJudged, history-judged}
-use Rattle.trace_clauses.proofs.JudgedHistories.{judged-history}
-use Rattle.trace_values.specs.View.{event_view}
-use Rattle.trace_values.specs.declared.event.Link.{Link}
+use Rattle.trace_events.proofs.JudgedHistories.{judged-history}
+use Rattle.trace_events.specs.View.{event_view}
+use Rattle.trace_events.specs.declared.event.Link.{Link}
 use Rattle.state_tables.specs.EndedLinks.{AreEnded, views}
 use Rattle.state_tables.proofs.ConsumersOf.{are-served}
 use Rattle.state_tables.specs.Copies.{AreDue, AreReceivers}

@@ -2,8 +2,8 @@ use Rattle.std.proofs.Common.{◌≡◌, sym, ap, subst, ◌∙◌, ℕ, false, 
 use Rattle.trace_events.specs.Event.{Event, Incoming}
 use Rattle.trace_events.specs.History.{history}
 use Rattle.trace_events.specs.Incoming.{incoming_at}
-use Rattle.trace_clauses.specs.TransferClause as transfers
-use Rattle.trace_values.specs.View.{link_view}
+use Rattle.trace_events.specs.TransferClause as transfers
+use Rattle.trace_events.specs.View.{link_view}
 use Rattle.state_incoming.specs.EntryAnswers.{Knows}
 use Rattle.state_incoming.proofs.CarriedHeld.{before-given}
 use Rattle.state_incoming.proofs.GroupAnswers.{judged-of}

@@ -1,7 +1,7 @@
 use Rattle.std.proofs.Common.{◌≡◌, sym, subst, List}
 use Rattle.trace_events.specs.Event.{Event}
 use Rattle.trace_events.specs.Outgoing as law
-use Rattle.trace_values.specs.View.{incoming_view}
+use Rattle.trace_events.specs.View.{incoming_view}
 use Rattle.state_outgoing.specs.SentTables.{IsTable}
 use Rattle.state_answers.proofs.LetGoKnown.{known-kept}
 use Rattle.state_answers.proofs.lent_tables.carriage.LentTablesCarriage.is_paired.Goals as goal

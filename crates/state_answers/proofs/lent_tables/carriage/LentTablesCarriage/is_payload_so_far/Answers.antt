@@ -2,10 +2,10 @@ use Rattle.std.proofs.Common.{◌≡◌, refl, sym, subst, List, ◌++◌, None}
 use Rattle.trace_events.specs.Event.{Event}
 use Rattle.trace_events.specs.Incoming as received
 use Rattle.trace_events.specs.Outgoing as law
-use Rattle.trace_clauses.specs.Clauses.{first_broken}
-use Rattle.trace_clauses.specs.TransferClause.{is_payload_so_far}
-use Rattle.trace_values.specs.Known.{IsCarriedBy}
-use Rattle.trace_values.specs.View.{incoming_view, outgoing_view}
+use Rattle.trace_events.specs.Clauses.{first_broken}
+use Rattle.trace_events.specs.TransferClause.{is_payload_so_far}
+use Rattle.trace_events.specs.Known.{IsCarriedBy}
+use Rattle.trace_events.specs.View.{incoming_view, outgoing_view}
 use Rattle.state_outgoing.specs.SentAnswers.{KnowsOrBegins}
 use Rattle.state_outgoing.specs.SentTables.{AreSent}
 use Rattle.state_answers.proofs.lent_tables.carriage.LentTablesCarriage.is_payload_so_far.Goals as goal

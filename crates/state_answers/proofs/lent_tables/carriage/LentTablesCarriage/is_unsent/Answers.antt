@@ -3,7 +3,7 @@ use Rattle.trace_events.specs.Due as due
 use Rattle.trace_events.specs.Event.{Event}
 use Rattle.trace_events.specs.Incoming.{incoming_at}
 use Rattle.trace_events.specs.Link.{IsLiveLink}
-use Rattle.trace_values.specs.View.{incoming_view, link_view}
+use Rattle.trace_events.specs.View.{incoming_view, link_view}
 use Rattle.state_tables.specs.Copies.{AreCopies}
 use Rattle.state_incoming.proofs.KnownEntries.{knows-at}
 use Rattle.state_answers.proofs.lent_tables.carriage.LentTablesCarriage.is_unsent.Goals as goal

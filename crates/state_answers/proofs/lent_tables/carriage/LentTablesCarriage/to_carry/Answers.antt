@@ -1,7 +1,7 @@
 use Rattle.std.proofs.Common.{◌≡◌, ◌∙◌, Some, option_map}
-use Rattle.trace_clauses.specs.TransferClause.{to_carry}
+use Rattle.trace_events.specs.TransferClause.{to_carry}
 use Rattle.trace_events.specs.Event.{Incoming}
-use Rattle.trace_values.specs.View.{incoming_view}
+use Rattle.trace_events.specs.View.{incoming_view}
 use Rattle.state_incoming.specs.EntryAnswers.{Knows}
 use Rattle.state_incoming.proofs.GroupAnswers.{judged-of}
 use Rattle.state_answers.proofs.LetGoKnown.{if-some, noted-kept, nothing-named}

@@ -2,7 +2,7 @@ use Rattle.std.proofs.Common.{◌≡◌, sym, subst, List, option_map}
 use Rattle.trace_events.specs.Event.{Event}
 use Rattle.trace_events.specs.Disposition.{terminal_state}
 use Rattle.trace_events.specs.Outgoing as law
-use Rattle.trace_values.specs.View.{decision_view, outgoing_view}
+use Rattle.trace_events.specs.View.{decision_view, outgoing_view}
 use Rattle.state_outgoing.specs.SentAnswers.{KnowsOrBegins}
 use Rattle.state_outgoing.specs.SentTables.{AreSent}
 use Rattle.state_answers.proofs.lent_tables.outcomes.LentTablesOutcomes.decision.Goals as goal

@@ -1,7 +1,7 @@
 use Rattle.std.proofs.Common.{◌≡◌, sym, subst, List, option_map}
 use Rattle.trace_events.specs.Event.{Event}
 use Rattle.trace_events.specs.Outgoing as law
-use Rattle.trace_values.specs.View.{incoming_view, outgoing_view}
+use Rattle.trace_events.specs.View.{incoming_view, outgoing_view}
 use Rattle.state_outgoing.specs.SentTables.{IsTable}
 use Rattle.state_answers.proofs.ClosingsKnown.{known-one}
 use Rattle.state_answers.proofs.LetGoKnown.{known-kept}

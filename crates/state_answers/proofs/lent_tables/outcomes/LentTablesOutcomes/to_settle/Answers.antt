@@ -1,7 +1,7 @@
 use Rattle.std.proofs.Common.{◌≡◌, sym, subst, ℕ, List, option_map}
 use Rattle.trace_events.specs.Event.{Event}
 use Rattle.trace_events.specs.Settling as settling
-use Rattle.trace_values.specs.View.{outgoing_view}
+use Rattle.trace_events.specs.View.{outgoing_view}
 use Rattle.state_incoming.specs.EntryAnswers.{is_shut}
 use Rattle.state_incoming.specs.HeldTables.{held_in}
 use Rattle.state_incoming.proofs.GroupAnswers.{judged-of}

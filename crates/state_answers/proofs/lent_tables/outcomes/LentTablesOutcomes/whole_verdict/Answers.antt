@@ -1,8 +1,8 @@
 use Rattle.std.proofs.Common.{◌≡◌, sym, subst, List, Some}
 use Rattle.trace_events.specs.Event.{Event}
 use Rattle.trace_events.specs.Incoming.{incoming_at}
-use Rattle.trace_values.specs.View.{incoming_view}
-use Rattle.trace_clauses.specs.BestVerdict.{whole_verdict}
+use Rattle.trace_events.specs.View.{incoming_view}
+use Rattle.trace_events.specs.BestVerdict.{whole_verdict}
 use Rattle.state_incoming.proofs.KnownEntries.{knows-at}
 use Rattle.state_verdicts.specs.Verdicts.{AreVerdicts}
 use Rattle.state_answers.proofs.LetGoKnown.{known-kept}
