@@ -20,10 +20,10 @@ use Rattle.capture_form.proofs.FormLemmas.{form_short}
 use Rattle.capture_form.proofs.ReadingLaws.{headless}
 use Rattle.capture_form.proofs.RuleLemmas.{rule_again}
 use Rattle.capture_form.proofs.WritingLemmas.{long_text}
-use Rattle.trace_clauses.specs.declared.clause.Clause.{Clause}
-use Rattle.trace_clauses.specs.declared.tally.Tally.{Tally}
-use Rattle.trace_clauses.specs.Verdict.{tallied_or}
-use Rattle.trace_clauses.proofs.Keeping.{lawful-keeps}
+use Rattle.trace_events.specs.declared.clause.Clause.{Clause}
+use Rattle.trace_events.specs.declared.tally.Tally.{Tally}
+use Rattle.trace_events.specs.Verdict.{tallied_or}
+use Rattle.trace_events.proofs.Keeping.{lawful-keeps}
 use Rattle.audit_core.specs.declared.judging.Stop.{Stop}
 use Rattle.audit_core.specs.declared.judging.Stop.TheVariants as stops
 use Rattle.audit_core.specs.declared.verdict.Refusal.{Refusal}

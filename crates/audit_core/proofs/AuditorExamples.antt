@@ -2,14 +2,14 @@
 use Rattle.std.proofs.Common.{◌≡◌, ℕ, true, false, [], ◌∷◌, Option, Some, None, Err, is_some, refl, sym, ap, ◌∙◌, inl, inr, arith}
 use Rattle.capture_form.specs.declared.records.Record.{Record}
 use Rattle.capture_form.specs.Rules.{RuleSet, no_rules}
-use Rattle.trace_clauses.specs.declared.clause.Clause.{Clause}
-use Rattle.trace_clauses.specs.declared.clause.Clause.TheVariants.{L1, L2}
-use Rattle.trace_clauses.specs.declared.tally.Tally.{Tally}
-use Rattle.trace_clauses.specs.Clauses.{first_broken}
-use Rattle.trace_clauses.specs.Verdict.{tally_of}
-use Rattle.trace_clauses.specs.Written.{written_open}
-use Rattle.trace_clauses.proofs.Captures.{opened, broken_of}
-use Rattle.trace_clauses.proofs.Made.{write}
+use Rattle.trace_events.specs.declared.clause.Clause.{Clause}
+use Rattle.trace_events.specs.declared.clause.Clause.TheVariants.{L1, L2}
+use Rattle.trace_events.specs.declared.tally.Tally.{Tally}
+use Rattle.trace_events.specs.Clauses.{first_broken}
+use Rattle.trace_events.specs.Verdict.{tally_of}
+use Rattle.trace_events.specs.Written.{written_open}
+use Rattle.trace_events.proofs.Captures.{opened, broken_of}
+use Rattle.trace_events.proofs.Made.{write}
 use Rattle.trace_events.specs.History.{history}
 use Rattle.state_ledger.specs.Ledger.{broken_behind}
 use Rattle.audit_core.specs.declared.auditor.Auditor.{Auditor}

@@ -13,11 +13,11 @@ use Rattle.capture_form.specs.Text.{IsCapture, IsRecord, record_text, records_te
 use Rattle.capture_form.specs.Reader.{left_of, offset_of, fault_of, text_of_next, IsHead, IsNext, StopsHead, StopsNext}
 use Rattle.capture_form.proofs.TextLemmas.{long_record}
 use Rattle.capture_form.proofs.Loops.{flat_map_push}
-use Rattle.trace_clauses.specs.declared.clause.Clause.{Clause}
-use Rattle.trace_clauses.specs.declared.tally.Tally.{Tally}
-use Rattle.trace_clauses.specs.Verdict.{tally_of}
+use Rattle.trace_events.specs.declared.clause.Clause.{Clause}
+use Rattle.trace_events.specs.declared.tally.Tally.{Tally}
+use Rattle.trace_events.specs.Verdict.{tally_of}
 use Rattle.trace_events.specs.History.{history}
-use Rattle.trace_clauses.proofs.Broken.{length-history}
+use Rattle.trace_events.proofs.Broken.{length-history}
 use Rattle.audit_core.specs.declared.auditor.Auditor.{Auditor}
 use Rattle.audit_core.specs.declared.verdict.Refusal.{Refusal}
 use Rattle.audit_core.specs.declared.verdict.Refusal.TheVariants.{Broken, Memory}

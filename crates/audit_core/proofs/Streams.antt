@@ -12,9 +12,9 @@ use Rattle.capture_form.specs.Text.{Trace, IsCapture, IsRecord, record_text, tex
 use Rattle.capture_form.specs.Reading.{record_at, records_at, head_at, Reads, reads_behind, reading}
 use Rattle.capture_form.specs.Laws.{trace_of}
 use Rattle.capture_form.specs.Reader.{StopsNext, StopsHead}
-use Rattle.trace_clauses.specs.declared.clause.Clause.{Clause}
-use Rattle.trace_clauses.specs.declared.tally.Tally.{Tally}
-use Rattle.trace_clauses.proofs.Keeping.{lawful-keeps}
+use Rattle.trace_events.specs.declared.clause.Clause.{Clause}
+use Rattle.trace_events.specs.declared.tally.Tally.{Tally}
+use Rattle.trace_events.proofs.Keeping.{lawful-keeps}
 use Rattle.audit_core.specs.declared.verdict.Refusal.{Refusal}
 use Rattle.audit_core.specs.declared.verdict.Refusal.TheVariants.{Broken, Memory}
 use Rattle.audit_core.specs.declared.verdict.Verdict.{Verdict}

@@ -4,12 +4,12 @@ use Rattle.std.specs.Prelude.{◌≢◌, IfErr, OnOk}
 use Rattle.std.specs.Result.{result_err}
 use Rattle.capture_form.specs.declared.records.Record.{Record}
 use Rattle.capture_form.specs.Rules.{RuleSet}
-use Rattle.trace_clauses.specs.declared.clause.Clause.{Clause}
-use Rattle.trace_clauses.specs.declared.tally.Tally.{Tally}
-use Rattle.trace_clauses.proofs.Lawful.{history-push, lawful-push}
+use Rattle.trace_events.specs.declared.clause.Clause.{Clause}
+use Rattle.trace_events.specs.declared.tally.Tally.{Tally}
+use Rattle.trace_events.proofs.Lawful.{history-push, lawful-push}
 use Rattle.trace_events.specs.History.{history}
-use Rattle.trace_clauses.specs.Clauses.{first_broken}
-use Rattle.trace_clauses.proofs.Broken.{length-history}
+use Rattle.trace_events.specs.Clauses.{first_broken}
+use Rattle.trace_events.proofs.Broken.{length-history}
 use Rattle.state_ledger.specs.Ledger.{Stands, IsReason, broken_behind}
 use Rattle.state_ledger.specs.declared.not_entered.NotEntered.{NotEntered}
 use Rattle.state_ledger.specs.declared.not_entered.NotEntered.TheVariants as why

@@ -6,7 +6,7 @@ use Rattle.capture_form.specs.declared.records.Record.{Record}
 use Rattle.capture_form.specs.declared.fault.FormKind.{FormKind}
 use Rattle.capture_form.specs.declared.fault.FormKind.TheVariants as kinds
 use Rattle.capture_form.specs.Rules.{RuleSet}
-use Rattle.trace_clauses.specs.declared.tally.Tally.{Tally}
+use Rattle.trace_events.specs.declared.tally.Tally.{Tally}
 use Rattle.audit_core.specs.declared.verdict.Verdict.TheVariants.{Accepted, NoMemory, Unreadable}
 use Rattle.audit_core.specs.declared.verdict.Refusal.{Refusal}
 use Rattle.audit_core.specs.declared.verdict.Refusal.TheVariants.{Broken, Memory}

@@ -10,14 +10,14 @@ use Rattle.capture_form.specs.Text.{IsCapture, Trace, text}
 use Rattle.capture_form.specs.Reading.{Reads, reading, head_at}
 use Rattle.capture_form.specs.Laws.{whole_reads, first_records, trace_of}
 use Rattle.capture_form.proofs.ReadingLaws.{reads_on, reads_whole, stands_in_front, spells_whole, headless}
-use Rattle.trace_clauses.specs.declared.clause.Clause.{Clause}
+use Rattle.trace_events.specs.declared.clause.Clause.{Clause}
 use Rattle.trace_events.specs.History.{history}
-use Rattle.trace_clauses.specs.Clauses.{first_broken}
-use Rattle.trace_clauses.proofs.Lawful.{broken-stays}
-use Rattle.trace_clauses.proofs.Broken.{broken_at}
+use Rattle.trace_events.specs.Clauses.{first_broken}
+use Rattle.trace_events.proofs.Lawful.{broken-stays}
+use Rattle.trace_events.proofs.Broken.{broken_at}
 use Rattle.audit_core.specs.declared.verdict.Verdict.{Verdict}
 use Rattle.audit_core.specs.declared.verdict.Verdict.TheVariants.{Accepted, Refused, Malformed, NoMemory, Unreadable}
-use Rattle.trace_clauses.specs.declared.tally.Tally.{Tally}
+use Rattle.trace_events.specs.declared.tally.Tally.{Tally}
 use Rattle.audit_core.specs.Verdict.{broken_in, tally_in, Accepts, AcceptsUnlessRefused, Answers, Refuses, Holds}
 
 abbrev verdict_by : Trace → Option (ℕ × Clause) → Option FormFault → Verdict

@@ -13,8 +13,8 @@ use Rattle.capture_form.specs.Text.{IsRecord, record_text, records_text, text, h
 use Rattle.capture_form.specs.Reading.{head_at, reading, record_at}
 use Rattle.capture_form.specs.Reader.{left_of, fault_of, IsHead, IsNext, StopsHead, StopsNext}
 use Rattle.capture_form.proofs.ReadingLaws.{headless}
-use Rattle.trace_clauses.specs.declared.clause.Clause.{Clause}
-use Rattle.trace_clauses.specs.declared.tally.Tally.{Tally}
+use Rattle.trace_events.specs.declared.clause.Clause.{Clause}
+use Rattle.trace_events.specs.declared.tally.Tally.{Tally}
 use Rattle.state_ledger.specs.declared.ledger.Ledger.{Ledger}
 use Rattle.state_ledger.specs.Ledger.{Stands, StandsWhole}
 use Rattle.audit_core.specs.declared.auditor.Auditor.{Auditor}

@@ -2,10 +2,10 @@
 use Rattle.std.specs.Prelude.{◌≡◌, ℕ, Bool, true, false, List, length, Option, Some, None, is_some, ⊤}
 use Rattle.capture_form.specs.declared.records.Record.{Record}
 use Rattle.capture_form.specs.Rules.{RuleSet}
-use Rattle.trace_clauses.specs.declared.tally.Tally.{Tally}
+use Rattle.trace_events.specs.declared.tally.Tally.{Tally}
 use Rattle.trace_events.specs.History.{history}
-use Rattle.trace_clauses.specs.Clauses.{first_broken}
-use Rattle.trace_clauses.specs.Verdict.{tally_of}
+use Rattle.trace_events.specs.Clauses.{first_broken}
+use Rattle.trace_events.specs.Verdict.{tally_of}
 use Rattle.state_answers.specs.Tables.{entries_of}
 use Rattle.state_ledger.specs.Ledger.{Stands, broken_behind}
 use Rattle.state_ledger.specs.declared.not_entered.NotEntered.{NotEntered}

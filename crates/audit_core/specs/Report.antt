@@ -1,9 +1,9 @@
 -- The line and the exit status of a verdict.
 use Rattle.std.specs.Prelude.{ℕ, List, ◌++◌, codes, decimal}
-use Rattle.trace_clauses.specs.declared.tally.Tally.{Tally}
+use Rattle.trace_events.specs.declared.tally.Tally.{Tally}
 use Rattle.audit_core.specs.declared.verdict.Verdict.{Verdict}
 use Rattle.audit_core.specs.declared.verdict.Verdict.TheVariants.{Accepted, Refused, Malformed, NoMemory, Unreadable}
-use Rattle.trace_clauses.specs.ClauseNames.{clause_name}
+use Rattle.trace_events.specs.ClauseNames.{clause_name}
 
 -- what is counted in an accepted capture, as words of the line (own format)
 abbrev pub tally_text : Tally → List ℕ

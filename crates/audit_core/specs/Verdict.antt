@@ -7,12 +7,12 @@ use Rattle.capture_form.specs.Reading.{reading}
 use Rattle.capture_form.specs.Laws.{BeginsWith, trace_of}
 use Rattle.capture_form.specs.Gives.{IsRefusedRule, IsRefusedRecord}
 use Rattle.capture_form.specs.Reader.{IsPartStart}
-use Rattle.trace_clauses.specs.declared.clause.Clause.{Clause}
-use Rattle.trace_clauses.specs.declared.tally.Tally.{Tally}
+use Rattle.trace_events.specs.declared.clause.Clause.{Clause}
+use Rattle.trace_events.specs.declared.tally.Tally.{Tally}
 use Rattle.trace_events.specs.History.{history}
-use Rattle.trace_clauses.specs.Clauses.{first_broken}
-use Rattle.trace_clauses.specs.Verdict.{tally_of, verdict}
-use Rattle.trace_clauses.specs.Kept.{Keeps}
+use Rattle.trace_events.specs.Clauses.{first_broken}
+use Rattle.trace_events.specs.Verdict.{tally_of, verdict}
+use Rattle.trace_events.specs.Kept.{Keeps}
 use Rattle.audit_core.specs.declared.verdict.Verdict.{Verdict}
 use Rattle.audit_core.specs.declared.verdict.Verdict.TheVariants.{Accepted, Refused, Malformed, NoMemory, Unreadable}
 use Rattle.audit_core.specs.declared.verdict.Refusal.{Refusal}

@@ -13,7 +13,7 @@ use crate::verdict::Refusal;
 use capture_form::{Record, RuleSet};
 use state_ledger::{Ledger, NotEntered};
 use std::alloc::Global;
-use trace_clauses::Tally;
+use trace_events::Tally;
 
 /// The most records that an auditor takes.
 pub const MOST_RECORDS: u64 = 9223372036854775807;

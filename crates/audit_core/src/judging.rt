@@ -3,7 +3,7 @@
 ghost use Rattle.std.specs.Prelude.{◌≡◌, ◌^◌, ◌<◌, [], length, IfOk, IfErr, OnOk, false, if◌then◌else◌};
 ghost use Rattle.capture_form.specs.Gives.{is_refusal};
 ghost use Rattle.capture_form.specs.Text.{text};
-ghost use Rattle.trace_clauses.specs.declared.tally.Tally.{Tally};
+ghost use Rattle.trace_events.specs.declared.tally.Tally.{Tally};
 ghost use Rattle.audit_core.specs.declared.verdict.Verdict.{Verdict};
 ghost use Rattle.audit_core.specs.declared.verdict.Verdict.TheVariants.{Accepted};
 ghost use Rattle.audit_core.specs.Auditor.{Follows, forgets_by};
@@ -15,7 +15,7 @@ use crate::lengths::{offset_of_record, offset_of_rules};
 use crate::verdict::{Refusal, Verdict};
 use capture_form::{Capture, FormFault, FormKind, Reading, read_whole_records};
 use std::alloc::Global;
-use trace_clauses::{Clause, Tally};
+use trace_events::{Clause, Tally};
 
 /// Judges the records of a capture one after the other, and gives what the capture holds.
 ///

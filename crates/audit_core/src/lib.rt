@@ -1,5 +1,5 @@
 //! The offline auditor: what a capture is worth, and what its text is. An `Auditor` takes the records of a capture one after
-//! the other, and refuses the first that breaks a clause of the law (`trace_clauses`). `audit` hands it those of a capture, and
+//! the other, and refuses the first that breaks a clause of the law (`trace_events`). `audit` hands it those of a capture, and
 //! tells what that holds. `audit_bytes` answers, for any octets, the one verdict that holds of them, unless memory was
 //! refused: that they are the text of a capture each of whose records meets the law, or which record is the first that does
 //! not, or at which offset they stop being such a text. `audit_stream` answers it for the octets that a reader gives, which
@@ -29,6 +29,6 @@ pub use state_ledger::Ledger;
 pub use streaming::{
     audit_forgetting, audit_stream, audit_text, audit_watched, audit_watched_forgetting,
 };
-pub use trace_clauses::{Clause, Tally};
+pub use trace_events::{Clause, Tally};
 pub use verdict::{Refusal, Verdict};
 pub use watching::Watcher;

@@ -2,7 +2,7 @@
 
 use capture_form::FormKind;
 use std::fmt;
-use trace_clauses::{Clause, Tally};
+use trace_events::{Clause, Tally};
 
 /// Why a capture is not accepted.
 #[derive(Clone, Copy, Debug, PartialEq, Eq)]

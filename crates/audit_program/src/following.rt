@@ -1,7 +1,7 @@
 //! The verdicts on what grows.
 
 ghost use Rattle.std.specs.Prelude.{◌≡◌, IfSome, None};
-ghost use Rattle.trace_clauses.specs.declared.tally.Tally.{Tally};
+ghost use Rattle.trace_events.specs.declared.tally.Tally.{Tally};
 ghost use Rattle.audit_core.specs.declared.verdict.Verdict.TheVariants.{Accepted};
 ghost use Rattle.audit_core.specs.Verdict.{AnswersRead, AreRefused, IsKept};
 

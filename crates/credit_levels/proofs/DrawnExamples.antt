@@ -3,7 +3,7 @@ use Rattle.std.proofs.Common.{◌≡◌, refl, ℕ, List, Option, None, Some}
 use Rattle.capture_form.specs.declared.records.Record.{Record}
 use Rattle.capture_form.specs.Rules.{}
 use Rattle.capture_form.specs.Text.{Trace, IsCapture, text}
-use Rattle.trace_clauses.specs.declared.tally.Tally.{Tally}
+use Rattle.trace_events.specs.declared.tally.Tally.{Tally}
 use Rattle.audit_core.specs.declared.verdict.Verdict.TheVariants.{Accepted, Malformed, NoMemory}
 use Rattle.credit_chart.specs.declared.level.Level.{Level}
 use Rattle.credit_chart.specs.Curves.{HasCurves}

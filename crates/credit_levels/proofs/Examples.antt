@@ -11,8 +11,8 @@ use Rattle.capture_form.specs.declared.records.Record.{Record}
 use Rattle.capture_form.specs.Rules.{no_rules}
 use Rattle.trace_events.specs.Frame.{frame_read}
 use Rattle.trace_events.specs.History.{history}
-use Rattle.trace_clauses.specs.Written.{spoken_octets}
-use Rattle.trace_clauses.proofs.Made.{accepted, carry, detach_of, disposes, draining, first, from, from_with, gives, hi, q, receives_from, sent}
+use Rattle.trace_events.specs.Written.{spoken_octets}
+use Rattle.trace_events.proofs.Made.{accepted, carry, detach_of, disposes, draining, first, from, from_with, gives, hi, q, receives_from, sent}
 use Rattle.credit_chart.specs.declared.level.Level.{Level}
 use Rattle.credit_levels.specs.declared.pick.Pick.{Pick}
 use Rattle.credit_levels.specs.declared.pick.PickedLink.{PickedLink}

@@ -9,7 +9,7 @@ use Rattle.trace_events.specs.declared.session.Session.{Session}
 use Rattle.trace_events.specs.Session.{IsLiveOn, live_session}
 use Rattle.trace_events.specs.History.{judge, moment_of}
 use Rattle.trace_events.specs.Link.{IsLiveLink, live_link, session_link}
-use Rattle.trace_clauses.proofs.LiveLinks.{live-link}
+use Rattle.trace_events.proofs.LiveLinks.{live-link}
 use Rattle.credit_chart.specs.declared.level.Level.{Level}
 use Rattle.credit_chart.specs.declared.thinned.Thinned.{Thinned}
 use Rattle.credit_chart.specs.Thinned.{AreThinned}

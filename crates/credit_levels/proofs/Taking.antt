@@ -4,9 +4,9 @@ use Rattle.capture_form.specs.declared.records.Record.{Record}
 use Rattle.capture_form.specs.Rules.{RuleSet}
 use Rattle.trace_events.specs.Event.{Event}
 use Rattle.trace_events.specs.History.{history, judge}
-use Rattle.trace_clauses.specs.declared.tally.Tally.{Tally}
-use Rattle.trace_clauses.specs.Verdict.{tally_of}
-use Rattle.trace_clauses.proofs.Lawful.{history-push}
+use Rattle.trace_events.specs.declared.tally.Tally.{Tally}
+use Rattle.trace_events.specs.Verdict.{tally_of}
+use Rattle.trace_events.proofs.Lawful.{history-push}
 use Rattle.credit_levels.specs.declared.levels.Levels.{Levels}
 use Rattle.credit_levels.specs.declared.pick.Pick.{Pick}
 use Rattle.credit_levels.specs.Levels.{AreOf}

@@ -5,7 +5,7 @@ ghost use Rattle.std.specs.Prelude.{List, ◌≡◌, ◌==◌, IfSome, option_an
 ghost use Rattle.trace_events.specs.History.{moment_of};
 ghost use Rattle.trace_events.specs.Link.{IsLiveLink, is_consumer, live_link};
 ghost use Rattle.trace_events.specs.Words.{is_some_and, or_else, where_passes};
-ghost use Rattle.trace_values.specs.View.{Events, link_view};
+ghost use Rattle.trace_events.specs.View.{Events, link_view};
 ghost use Rattle.svg_text.specs.Numbers.{most};
 ghost use Rattle.credit_levels.specs.Levels as spec;
 
@@ -13,8 +13,8 @@ use crate::delivery_counts::DeliveryCounts;
 use crate::pick::{Pick, PickedLink};
 use capture_form::{Record, RuleSet};
 use credit_chart::Level;
+use trace_events::{Link, moment_of};
 use trace_judge::{Counts, Inputs};
-use trace_values::{Link, moment_of};
 
 /// The link that stands at a place, if it lives.
 pub(crate) fn link_at<'a, P: Inputs<'a>>(past: &P, place: PickedLink) -> Option<Link<'a>>

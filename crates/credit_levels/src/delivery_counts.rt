@@ -2,14 +2,14 @@
 
 use capture_form::RuleSet;
 use state_answers::LentTables;
+use trace_events::Link;
 use trace_judge::History;
-use trace_values::Link;
 
 /// How many deliveries wait, and how many are unsettled.
 pub trait DeliveryCounts: History {
     ghost use Rattle.std.specs.Prelude.{◌≡◌};
     ghost use Rattle.capture_form.specs.Rules.{RuleSet};
-    ghost use Rattle.trace_values.specs.View.{Events, link_view};
+    ghost use Rattle.trace_events.specs.View.{Events, link_view};
     ghost use Rattle.state_incoming.specs.WaitingCount as waiting;
     ghost use Rattle.state_outgoing.specs.UnsettledCount as unsettled;
 

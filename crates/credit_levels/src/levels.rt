@@ -20,7 +20,7 @@ impl<'p> Levels<'p> {
     ghost use Rattle.capture_form.specs.Rules.{RuleSet};
     ghost use Rattle.std.specs.Prelude.{List, ◌≡◌, ◌∷◌, [], OnErr, OnOk, length};
     ghost use Rattle.trace_events.specs.History.{judge};
-    ghost use Rattle.trace_values.specs.View.{Events};
+    ghost use Rattle.trace_events.specs.View.{Events};
     ghost use Rattle.credit_levels.specs.declared.pick.Pick.{Pick};
     ghost use Rattle.credit_chart.specs.Thinned.{AreThinned};
     ghost use Rattle.credit_levels.specs.Levels.{AreOf, chosen, levels_of};

@@ -1,11 +1,11 @@
 //! Which link, and where it stands.
 
 ghost use Rattle.std.specs.Prelude.{◌≡◌};
-ghost use Rattle.trace_values.specs.View.{moment_view, spoken_view};
+ghost use Rattle.trace_events.specs.View.{moment_view, spoken_view};
 ghost use Rattle.credit_levels.specs.Pick as spec;
 
 use amqp_perf::Performative;
-use trace_values::{Moment, Spoken};
+use trace_events::{Moment, Spoken};
 
 /// The links of a consumer for which all that is given holds.
 #[derive(Clone, Copy, Debug)]

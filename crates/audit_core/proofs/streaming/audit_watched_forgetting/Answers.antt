@@ -5,7 +5,7 @@ use Rattle.audit_core.specs.Verdict.{AnswersRead, IsKept, is_sure}
 use Rattle.audit_core.specs.Watching.{Watched}
 use Rattle.audit_core.specs.declared.verdict.Verdict.{Verdict}
 use Rattle.audit_core.specs.declared.verdict.Verdict.TheVariants.{Accepted}
-use Rattle.trace_clauses.specs.declared.tally.Tally.{Tally}
+use Rattle.trace_events.specs.declared.tally.Tally.{Tally}
 use Rattle.audit_core.proofs.ReadSteps.{kept_known}
 use Rattle.audit_core.proofs.Unread.{kept_of, roomless, roomless_kept, roomless_seen}
 use Rattle.audit_core.proofs.streaming.audit_watched_forgetting.Goals as goal

@@ -1,6 +1,6 @@
 use Rattle.std.proofs.Common.{◌≡◌, sym, subst, List}
 use Rattle.trace_events.specs.Event.{Event}
-use Rattle.trace_values.specs.View.{link_view}
+use Rattle.trace_events.specs.View.{link_view}
 use Rattle.state_outgoing.specs.SentTables.{IsTable}
 use Rattle.state_outgoing.specs.UnsettledCount.{unsettled_count}
 use Rattle.credit_levels.proofs.delivery_counts.LentTablesDeliveryCounts.unsettled_count.Goals as goal
