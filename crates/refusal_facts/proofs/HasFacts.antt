@@ -10,11 +10,11 @@ use Rattle.trace_events.specs.Frame.{Frame, Spoken, spoken_in}
 use Rattle.trace_events.specs.Link.{is_consumer}
 use Rattle.trace_events.specs.Words.{is_some_and}
 use Rattle.trace_events.specs.Said.{as_attach, as_begin, as_detach, as_disposition, as_flow, as_transfer, is_end}
-use Rattle.trace_clauses.specs.declared.clause.Clause.{Clause}
-use Rattle.trace_clauses.specs.declared.clause.Clause.TheVariants.{L1, L2, L3, L4, L5, L6, L7, L8, L9, L10, L11, L12, L13, L14}
-use Rattle.trace_clauses.specs.TransferClause.{to_carry}
+use Rattle.trace_events.specs.declared.clause.Clause.{Clause}
+use Rattle.trace_events.specs.declared.clause.Clause.TheVariants.{L1, L2, L3, L4, L5, L6, L7, L8, L9, L10, L11, L12, L13, L14}
+use Rattle.trace_events.specs.TransferClause.{to_carry}
 use Rattle.refusal_facts.specs.Facts.{has_facts}
-use Rattle.trace_clauses.specs.Clauses.{broken_at, broken_by, broken_clause, clauses, disposition_meets, meaning_meets, spoken_meets}
+use Rattle.trace_events.specs.Clauses.{broken_at, broken_by, broken_clause, clauses, disposition_meets, meaning_meets, spoken_meets}
 
 -- by whether the first passes
 by-first : {A : Type 0} (p : A → Bool) (y : A) (ys : List A) (x : A) → (find p ys ≡ Some x → p x ≡ true) → (b : Bool) → p y ≡ b → (if b then Some y else find p ys) ≡ Some x → p x ≡ true

@@ -4,8 +4,8 @@ use Rattle.capture_form.specs.Rules.{RuleSet}
 use Rattle.pairing_cert.specs.declared.note.Note.{Note}
 use Rattle.pairing_cert.specs.declared.note.Note.TheVariants as notes
 use Rattle.trace_events.specs.Event.{Event}
-use Rattle.trace_clauses.specs.TransferClause.{to_carry}
-use Rattle.trace_values.specs.declared.event.Incoming.{Incoming}
+use Rattle.trace_events.specs.TransferClause.{to_carry}
+use Rattle.trace_events.specs.declared.event.Incoming.{Incoming}
 use Rattle.refusal_facts.specs.TransferFacts.{IsNamed, IsNamedBy}
 use Rattle.refusal_facts.specs.declared.transfer.Named.{Named}
 use Rattle.refusal_facts.specs.declared.transfer.Named.TheVariants as named

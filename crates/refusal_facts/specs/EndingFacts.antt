@@ -5,7 +5,7 @@ use Rattle.trace_events.specs.Link.{owes_detach}
 use Rattle.trace_events.specs.Said.{out_detach, out_spoken}
 use Rattle.trace_events.specs.Session.{owes_end}
 use Rattle.trace_events.specs.Words.{is_some_and}
-use Rattle.trace_values.specs.View.{link_view}
+use Rattle.trace_events.specs.View.{link_view}
 use Rattle.refusal_facts.specs.declared.ending.DetachFacts.{DetachFacts}
 use Rattle.refusal_facts.specs.declared.ending.EndFacts.{EndFacts}
 

@@ -2,11 +2,11 @@
 use Rattle.std.specs.Prelude.{◌≡◌, ℕ, Bool, true, false, ◌&&◌, ◌||◌, List, Some, is_some}
 use Rattle.capture_form.specs.Rules.{RuleSet}
 use Rattle.trace_events.specs.Event.{Event, channel_of, out_frame}
-use Rattle.trace_clauses.specs.declared.clause.Clause.{Clause}
+use Rattle.trace_events.specs.declared.clause.Clause.{Clause}
 use Rattle.trace_events.specs.Said.{is_out_end, out_attach, out_begin, out_detach, out_disposition, out_flow, out_transfer}
-use Rattle.trace_clauses.specs.declared.clause.Clause.TheVariants.{L1, L2, L3, L4, L5, L6, L7, L8, L9, L10, L11, L12, L13, L14}
-use Rattle.trace_clauses.specs.Clauses.{broken_clause}
-use Rattle.trace_clauses.specs.TransferClause.{to_carry}
+use Rattle.trace_events.specs.declared.clause.Clause.TheVariants.{L1, L2, L3, L4, L5, L6, L7, L8, L9, L10, L11, L12, L13, L14}
+use Rattle.trace_events.specs.Clauses.{broken_clause}
+use Rattle.trace_events.specs.TransferClause.{to_carry}
 use Rattle.refusal_facts.specs.OpeningFacts.{AreAttach, AreBegin, AreWriting, IsFrame}
 use Rattle.refusal_facts.specs.TransferFacts.{AreBeginning, AreCarrying, AreGoingOn, AreOrder, AreSending}
 use Rattle.refusal_facts.specs.PayloadFacts.{ArePayload}

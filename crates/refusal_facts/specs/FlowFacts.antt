@@ -8,8 +8,8 @@ use Rattle.trace_events.specs.Link.{is_consumer}
 use Rattle.trace_events.specs.Said.{out_flow}
 use Rattle.trace_events.specs.Waiting.{has_waiting, undecided_count}
 use Rattle.trace_events.specs.Window.{next_incoming_id, next_outgoing_id}
-use Rattle.trace_clauses.specs.FlowClause.{full_credit, may_be_topped_up}
-use Rattle.trace_values.specs.View.{link_view}
+use Rattle.trace_events.specs.FlowClause.{full_credit, may_be_topped_up}
+use Rattle.trace_events.specs.View.{link_view}
 use Rattle.refusal_facts.specs.declared.flow.SessionNumbers.{SessionNumbers}
 use Rattle.refusal_facts.specs.declared.flow.ProducerNumbers.{ProducerNumbers}
 use Rattle.refusal_facts.specs.declared.flow.ConsumerNumbers.{ConsumerNumbers}

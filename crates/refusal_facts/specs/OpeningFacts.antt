@@ -8,9 +8,9 @@ use Rattle.trace_events.specs.Heard.{is_of_connection}
 use Rattle.trace_events.specs.Link.{address_at}
 use Rattle.trace_events.specs.Said.{as_open, out_attach, out_begin, out_meaning, out_spoken}
 use Rattle.trace_events.specs.Session.{has_unanswered_begin}
-use Rattle.trace_clauses.specs.LinkClause.{asking, answering_receiver_mode, is_without_address}
+use Rattle.trace_events.specs.LinkClause.{asking, answering_receiver_mode, is_without_address}
 use Rattle.trace_events.specs.Words.{is_some_and}
-use Rattle.trace_values.specs.View.{asking_view, frame_view}
+use Rattle.trace_events.specs.View.{asking_view, frame_view}
 use Rattle.refusal_facts.specs.declared.connection.FrameFacts.{FrameFacts}
 use Rattle.refusal_facts.specs.declared.connection.WritingFacts.{WritingFacts}
 use Rattle.refusal_facts.specs.declared.opening.BeginFacts.{BeginFacts}

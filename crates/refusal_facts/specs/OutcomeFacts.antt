@@ -15,10 +15,10 @@ use Rattle.trace_events.specs.Outgoing.{decision, is_sent, pairing}
 use Rattle.trace_events.specs.Said.{out_disposition}
 use Rattle.trace_events.specs.Settling.{is_closed}
 use Rattle.trace_events.specs.Waiting.{is_gone, is_of_multicast}
-use Rattle.trace_clauses.specs.BestVerdict.{whole_verdict}
-use Rattle.trace_clauses.specs.Outcome.{row}
+use Rattle.trace_events.specs.BestVerdict.{whole_verdict}
+use Rattle.trace_events.specs.Outcome.{row}
 use Rattle.trace_judge.specs.Told.{told_view}
-use Rattle.trace_values.specs.View.{decision_view, incoming_view, outgoing_view}
+use Rattle.trace_events.specs.View.{decision_view, incoming_view, outgoing_view}
 use Rattle.refusal_facts.specs.declared.outcome.Carrier.{Carrier}
 use Rattle.refusal_facts.specs.declared.outcome.OutcomeFacts.{OutcomeFacts}
 use Rattle.refusal_facts.specs.declared.outcome.SettlingFacts.{SettlingFacts}

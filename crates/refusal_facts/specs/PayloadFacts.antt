@@ -6,8 +6,8 @@ use Rattle.trace_events.specs.Event.{Event}
 use Rattle.trace_events.specs.Incoming as received
 use Rattle.trace_events.specs.Outgoing as told
 use Rattle.trace_events.specs.Said.{out_spoken, out_transfer}
-use Rattle.trace_clauses.specs.TransferClause.{to_carry}
-use Rattle.trace_values.specs.View.{incoming_view, outgoing_view}
+use Rattle.trace_events.specs.TransferClause.{to_carry}
+use Rattle.trace_events.specs.View.{incoming_view, outgoing_view}
 use Rattle.refusal_facts.specs.declared.payload.Difference.{Difference}
 use Rattle.refusal_facts.specs.declared.payload.Difference.TheVariants.{Octet, TooMany, Missing, Nothing}
 use Rattle.refusal_facts.specs.declared.payload.PayloadFacts.{PayloadFacts}

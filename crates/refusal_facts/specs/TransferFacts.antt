@@ -12,8 +12,8 @@ use Rattle.trace_events.specs.Outgoing.{next_delivery_id, pairing}
 use Rattle.trace_events.specs.Said.{out_transfer}
 use Rattle.trace_events.specs.Waiting.{is_gone, is_of_multicast}
 use Rattle.trace_events.specs.Window.{next_outgoing_id, session_window}
-use Rattle.trace_clauses.specs.TransferClause.{carried_before, is_in_order, to_carry}
-use Rattle.trace_values.specs.View.{incoming_view, link_view, outgoing_view}
+use Rattle.trace_events.specs.TransferClause.{carried_before, is_in_order, to_carry}
+use Rattle.trace_events.specs.View.{incoming_view, link_view, outgoing_view}
 use Rattle.refusal_facts.specs.declared.transfer.SendingFacts.{SendingFacts}
 use Rattle.refusal_facts.specs.declared.transfer.BeginningFacts.{BeginningFacts}
 use Rattle.refusal_facts.specs.declared.transfer.GoingOnFacts.{GoingOnFacts}

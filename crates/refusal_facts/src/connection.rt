@@ -5,12 +5,12 @@ ghost use Rattle.std.specs.Prelude.{List, ◌≡◌, ◌&&◌, IfSome, is_none, 
 ghost use Rattle.amqp_perf.specs.View.{view};
 ghost use Rattle.trace_events.specs.Event as said;
 ghost use Rattle.trace_events.specs.Said.{as_open, out_spoken};
-ghost use Rattle.trace_values.specs.View.{Events, event_view, frame_view};
+ghost use Rattle.trace_events.specs.View.{Events, event_view, frame_view};
 ghost use Rattle.refusal_facts.specs.OpeningFacts.{AreWriting, IsFrame};
 
 use amqp_perf::Performative;
+use trace_events::{Event, Frame, Moment, is_of_connection};
 use trace_judge::{Openings, Outcomes};
-use trace_values::{Event, Frame, Moment, is_of_connection};
 
 /// Octets that are no performative.
 #[derive(Clone, Copy)]

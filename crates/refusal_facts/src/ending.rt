@@ -5,13 +5,12 @@ ghost use Rattle.std.specs.Prelude.{List, ◌≡◌, is_some, IfSome};
 ghost use Rattle.trace_events.specs.Link as links;
 ghost use Rattle.trace_events.specs.Session.{IsLiveOn, StandsLive};
 ghost use Rattle.trace_events.specs.Words.{is_some_and};
-ghost use Rattle.trace_values.specs.View.{Events, event_view};
+ghost use Rattle.trace_events.specs.View.{Events, event_view};
 ghost use Rattle.trace_events.specs.Said as said;
 ghost use Rattle.refusal_facts.specs.EndingFacts.{AreDetach, AreEnd};
 
-use trace_events::Session;
+use trace_events::{Event, Link, Session};
 use trace_judge::Openings;
-use trace_values::{Event, Link};
 
 /// A detach of the router's.
 #[derive(Clone, Copy)]

@@ -7,10 +7,10 @@ ghost use Rattle.trace_events.specs.Said as said;
 ghost use Rattle.trace_events.specs.Session.{StandsLive};
 ghost use Rattle.trace_events.specs.Link.{NamesLive};
 ghost use Rattle.trace_events.specs.Words.{is_some_and};
-ghost use Rattle.trace_clauses.specs.declared.clause.Clause.TheVariants as clauses;
-ghost use Rattle.trace_clauses.specs.Clauses as law;
-ghost use Rattle.trace_values.specs.Known.{CarriesKnown};
-ghost use Rattle.trace_values.specs.View.{Events, event_view};
+ghost use Rattle.trace_events.specs.declared.clause.Clause.TheVariants as clauses;
+ghost use Rattle.trace_events.specs.Clauses as law;
+ghost use Rattle.trace_events.specs.Known.{CarriesKnown};
+ghost use Rattle.trace_events.specs.View.{Events, event_view};
 ghost use Rattle.refusal_facts.specs.Facts.{AreFacts, IsReasonOf, has_facts, is_of};
 
 use crate::connection::{frame_facts, writing_facts};
@@ -25,9 +25,8 @@ use crate::transfer::{
     beginning_facts, carrying_facts, going_on_facts, order_facts, sending_facts,
 };
 use capture_form::RuleSet;
-use trace_clauses::Clause;
+use trace_events::{Clause, Event};
 use trace_judge::{Questions, broken_clause};
-use trace_values::Event;
 
 /// The reason why an event is refused, if it breaks a clause. The past must be able to tell of what the event carries, and
 /// `contents` of the deliveries of which the past can tell.

@@ -5,15 +5,14 @@ ghost use Rattle.std.specs.Prelude.{List, ◌≡◌, is_some, ◌-◌, IfSome, o
 ghost use Rattle.trace_events.specs.Link.{IsLiveLink, NamesLive};
 ghost use Rattle.trace_events.specs.Said as said;
 ghost use Rattle.trace_events.specs.Session.{IsLiveOn, StandsLive};
-ghost use Rattle.trace_values.specs.View.{Events, event_view, link_view};
+ghost use Rattle.trace_events.specs.View.{Events, event_view, link_view};
 ghost use Rattle.refusal_facts.specs.FlowFacts.{AreConsumerNumbers, AreFlow, AreProducerNumbers, AreSessionNumbers, IsFlowLink};
 
 use amqp_perf::{Flow, Performative};
 use capture_form::RuleSet;
 use flow_counts::CAPACITY;
-use trace_events::Session;
+use trace_events::{Event, Link, Session};
 use trace_judge::{Counts, Inputs, may_be_topped_up};
-use trace_values::{Event, Link};
 
 /// What a session has come to.
 #[derive(Clone, Copy)]

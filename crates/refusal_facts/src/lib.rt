@@ -27,7 +27,6 @@ pub use outcome::{Carrier, OutcomeFacts, SettlingFacts, ToldDelivery};
 pub use payload::{Difference, PayloadFacts};
 pub use payloads::Payloads;
 pub use reason::{Facts, Reason};
-pub use trace_clauses::Clause;
+pub use trace_events::{AskedAddress, Asking, Clause, Decision, Incoming, Link, Outgoing};
 pub use trace_judge::Told;
-pub use trace_values::{AskedAddress, Asking, Decision, Incoming, Link, Outgoing};
 pub use transfer::{BeginningFacts, CarryingFacts, GoingOnFacts, Named, OrderFacts, SendingFacts};

@@ -3,15 +3,14 @@
 ghost use Rattle.capture_form.specs.Rules.{RuleSet};
 ghost use Rattle.std.specs.Prelude.{List, ◌≡◌, is_some, IfSome, option_and_then, option_map};
 ghost use Rattle.trace_events.specs.Session.{IsLiveOn, StandsLive};
-ghost use Rattle.trace_clauses.specs.LinkClause as attaches;
-ghost use Rattle.trace_values.specs.View.{Events, asking_view, event_view};
+ghost use Rattle.trace_events.specs.LinkClause as attaches;
+ghost use Rattle.trace_events.specs.View.{Events, asking_view, event_view};
 ghost use Rattle.trace_events.specs.Said as said;
 ghost use Rattle.refusal_facts.specs.OpeningFacts.{AreAttach, AreBegin};
 
 use amqp_perf::{Attach, ReceiverSettleMode, SenderSettleMode};
-use trace_events::Session;
+use trace_events::{Asking, Event, Session, address_at, is_without_address};
 use trace_judge::Openings;
-use trace_values::{Asking, Event, address_at, is_without_address};
 
 /// A begin of the router's.
 #[derive(Clone, Copy)]

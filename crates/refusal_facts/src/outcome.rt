@@ -6,7 +6,7 @@ ghost use Rattle.trace_events.specs.Event as law_events;
 ghost use Rattle.trace_events.specs.Incoming as received;
 ghost use Rattle.trace_events.specs.Outgoing as sent;
 ghost use Rattle.trace_judge.specs.Told.{told_view};
-ghost use Rattle.trace_values.specs.View.{Events, event_view, incoming_view, outgoing_view};
+ghost use Rattle.trace_events.specs.View.{Events, event_view, incoming_view, outgoing_view};
 ghost use Rattle.trace_events.specs.Said as said;
 ghost use Rattle.refusal_facts.specs.OutcomeFacts.{AreOutcome, AreSettling, AreTold, IsCarrier, row_of, verdict_of};
 
@@ -14,8 +14,8 @@ use crate::payloads::Payloads;
 use amqp_perf::{Outcome, State};
 use capture_form::RuleSet;
 use pairing_cert::Note;
+use trace_events::{Decision, Event, Incoming, Outgoing};
 use trace_judge::{Outcomes, Told, row};
-use trace_values::{Decision, Event, Incoming, Outgoing};
 
 /// The delivery to a client that carries one whose outcome is told.
 #[derive(Clone, Copy)]

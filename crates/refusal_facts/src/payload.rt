@@ -2,16 +2,16 @@
 
 ghost use Rattle.capture_form.specs.Rules.{};
 ghost use Rattle.std.specs.Prelude.{List, ◌≡◌, ◌&&◌, is_some, ◌≢◌, ◌<◌, ◌+◌, ◌^◌, ℕ, Some, IfSome, IfNone, drop, length, slice_get};
-ghost use Rattle.trace_values.specs.View.{Events, event_view};
+ghost use Rattle.trace_events.specs.View.{Events, event_view};
 ghost use Rattle.trace_events.specs.Event as law_events;
 ghost use Rattle.trace_events.specs.Said as said;
-ghost use Rattle.trace_clauses.specs.TransferClause.{to_carry};
+ghost use Rattle.trace_events.specs.TransferClause.{to_carry};
 ghost use Rattle.refusal_facts.specs.PayloadFacts.{AreAlikeBelow, ArePayload, IsDifferenceFrom};
 
 use crate::payloads::Payloads;
 use capture_form::RuleSet;
+use trace_events::{Event, Incoming, Outgoing};
 use trace_judge::Questions;
-use trace_values::{Event, Incoming, Outgoing};
 
 /// How octets differ from those that were due.
 #[derive(Clone, Copy, Debug, PartialEq, Eq)]

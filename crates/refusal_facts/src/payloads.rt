@@ -1,6 +1,6 @@
 //! What facts are asked of, beyond the questions of `trace_judge`: octets and places that no clause asks for by themselves.
 
-use trace_values::{Incoming, Outgoing};
+use trace_events::{Incoming, Outgoing};
 
 /// What is told of deliveries beside the questions: of those that it knows.
 pub trait Payloads<'a> {
@@ -9,7 +9,7 @@ pub trait Payloads<'a> {
     ghost use Rattle.trace_events.specs.Event.{Incoming, Outgoing};
     ghost use Rattle.trace_events.specs.Incoming as received;
     ghost use Rattle.trace_events.specs.Outgoing as told;
-    ghost use Rattle.trace_values.specs.View.{Events, incoming_view, outgoing_view};
+    ghost use Rattle.trace_events.specs.View.{Events, incoming_view, outgoing_view};
 
     /// These are the events, judged by these rules of addresses.
     ghost tells_of: { Self → RuleSet → Events → Type 0 };

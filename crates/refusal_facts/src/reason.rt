@@ -8,7 +8,7 @@ use crate::outcome::{OutcomeFacts, SettlingFacts};
 use crate::payload::PayloadFacts;
 use crate::transfer::{BeginningFacts, CarryingFacts, GoingOnFacts, OrderFacts, SendingFacts};
 use pairing_cert::Note;
-use trace_clauses::Clause;
+use trace_events::Clause;
 
 /// Why a record is refused: the first clause that it breaks, and what that clause compares.
 #[derive(Clone, Copy)]

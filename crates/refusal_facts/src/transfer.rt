@@ -8,17 +8,16 @@ ghost use Rattle.trace_events.specs.Window as windows;
 ghost use Rattle.trace_events.specs.Session.{IsLiveOn, StandsLive};
 ghost use Rattle.trace_events.specs.Link.{NamesLive};
 ghost use Rattle.trace_events.specs.Words.{is_none_or};
-ghost use Rattle.trace_clauses.specs.TransferClause as transfers;
-ghost use Rattle.trace_values.specs.View.{Events, event_view, incoming_view};
+ghost use Rattle.trace_events.specs.TransferClause as transfers;
+ghost use Rattle.trace_events.specs.View.{Events, event_view, incoming_view};
 ghost use Rattle.trace_events.specs.Said as said;
 ghost use Rattle.refusal_facts.specs.TransferFacts.{AreBeginning, AreCarrying, AreGoingOn, AreOrder, AreSending, IsNamed, IsNamedAt, IsNamedBy};
 
 use crate::payloads::Payloads;
 use capture_form::RuleSet;
 use pairing_cert::Note;
-use trace_events::Session;
+use trace_events::{Event, Incoming, Link, Outgoing, Session};
 use trace_judge::{Carriage, Counts, Outcomes, Questions};
-use trace_values::{Event, Incoming, Link, Outgoing};
 
 /// L4: the link on which a transfer stands, and its session's window.
 #[derive(Clone, Copy)]

@@ -7,7 +7,7 @@ use capture_view::{Names, view_of};
 use capture_words::Page;
 use refusal_words::{Compared, Explained, Origins, compared_with};
 use std::alloc::{AllocError, Global};
-use trace_values::ReadRecord;
+use trace_events::ReadRecord;
 
 /// At how many characters the texts and octets of the refused record's line are cut.
 const WIDTH: usize = 32;

@@ -9,8 +9,8 @@ use crate::contents::Contents;
 use capture_form::RuleSet;
 use refusal_facts::{Reason, explain};
 use state_ledger::Ledger;
+use trace_events::ReadRecord;
 use trace_judge::judge_unopened;
-use trace_values::ReadRecord;
 
 /// The reason why the ledger does not take the record, judged by these rules, if it breaks a clause.
 pub fn explain_refused<'a>(

@@ -3,9 +3,9 @@ use Rattle.std.specs.Prelude.{ℕ, nat_lt, List, [], ◌∷◌, ◌++◌, map, O
 use Rattle.pairing_cert.specs.declared.note.Note.{Note}
 use Rattle.trace_events.specs.declared.session.Session.{Session}
 use Rattle.trace_events.specs.Outgoing.{noted_number}
-use Rattle.trace_values.specs.declared.event.Link.{Link}
-use Rattle.trace_values.specs.declared.event.Incoming.{Incoming}
-use Rattle.trace_values.specs.declared.event.Outgoing.{Outgoing}
+use Rattle.trace_events.specs.declared.event.Link.{Link}
+use Rattle.trace_events.specs.declared.event.Incoming.{Incoming}
+use Rattle.trace_events.specs.declared.event.Outgoing.{Outgoing}
 use Rattle.refusal_facts.specs.declared.flow.FlowLink.{FlowLink}
 use Rattle.refusal_facts.specs.declared.flow.FlowLink.TheVariants as links
 use Rattle.refusal_facts.specs.declared.flow.SessionNumbers.{SessionNumbers}

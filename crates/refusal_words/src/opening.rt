@@ -11,8 +11,7 @@ use refusal_facts::{
     AskedAddress, Asking, AttachFacts, BeginFacts, DetachFacts, EndFacts, FrameFacts, WritingFacts,
 };
 use std::fmt;
-use trace_events::{Fault, Session};
-use trace_values::Body;
+use trace_events::{Body, Fault, Session};
 
 /// The octets of a frame behind its header and whatever extends that, where it is a whole one.
 fn body_octets(octets: &[u8]) -> &[u8] {

@@ -4,7 +4,7 @@ use crate::link::{Change, LinkOrigin, credit_granted, drain_answered};
 use amqp_perf::{Attach, Flow, Performative};
 use std::alloc::{AllocError, Global};
 use std::collections::HashMap;
-use trace_values::opens_link;
+use trace_events::opens_link;
 
 /// The begin of a client, which grants the first window of a session.
 #[derive(Clone, Copy, Debug)]

@@ -5,12 +5,12 @@ use Rattle.trace_events.specs.Session.{StandsLive}
 use Rattle.trace_events.specs.Link.{NamesLive}
 use Rattle.trace_events.specs.History.{history, judge_unopened, moment_of}
 use Rattle.trace_events.proofs.Standing.{placed-stands}
-use Rattle.trace_clauses.specs.Clauses.{broken_clause}
-use Rattle.trace_clauses.specs.declared.tally.Tally.{Tally}
-use Rattle.trace_clauses.proofs.LiveLinks.{placed-names}
-use Rattle.trace_clauses.proofs.Unopened.{broken-unopened}
-use Rattle.trace_values.specs.Known.{CarriesKnown}
-use Rattle.trace_values.specs.View.{event_view}
+use Rattle.trace_events.specs.Clauses.{broken_clause}
+use Rattle.trace_events.specs.declared.tally.Tally.{Tally}
+use Rattle.trace_events.proofs.LiveLinks.{placed-names}
+use Rattle.trace_events.proofs.Unopened.{broken-unopened}
+use Rattle.trace_events.specs.Known.{CarriesKnown}
+use Rattle.trace_events.specs.View.{event_view}
 use Rattle.state_incoming.specs.Held.{held_at}
 use Rattle.state_incoming.specs.EntryAnswers.{has_entry}
 use Rattle.state_incoming.proofs.OverKnown.{table-whole}

@@ -1,5 +1,5 @@
 use Rattle.std.proofs.Common.{◌∙◌}
-use Rattle.trace_values.specs.View.{outgoing_view}
+use Rattle.trace_events.specs.View.{outgoing_view}
 use Rattle.refusal_showing.proofs.SentCounts.{count_known}
 use Rattle.refusal_showing.proofs.contents.ContentsPayloads.sent_count.Goals as goal
 
