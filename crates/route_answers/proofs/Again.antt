@@ -12,7 +12,7 @@ use Rattle.amqp_frames.specs.declared.frame.FrameKind.TheVariants as kinds
 use Rattle.amqp_frames.specs.Reading.{whole_frame}
 use Rattle.amqp_frames.specs.Writing.{frame_octets, frame_size, frame_with}
 use Rattle.trace_events.specs.Frame.{Spoken, Says, body_in, said_on, frame_read}
-use Rattle.trace_clauses.specs.Written.{spoken_octets, says, error_of}
+use Rattle.trace_events.specs.Written.{spoken_octets, says, error_of}
 use Rattle.route_answers.specs.Writing.{frame_of}
 use Rattle.route_answers.proofs.Lengths.{spoken_long}
 

@@ -11,7 +11,7 @@ use Rattle.trace_events.specs.Connection.{was_opened}
 use Rattle.trace_events.specs.Said.{as_attach}
 use Rattle.trace_events.specs.History.{judge_moment}
 use Rattle.trace_events.proofs.Standing.{placed-stands}
-use Rattle.trace_clauses.proofs.LiveLinks.{placed-names}
+use Rattle.trace_events.proofs.LiveLinks.{placed-names}
 use Rattle.route_answers.specs.Answering.{IsReady, may_happen, was_lost}
 use Rattle.route_answers.specs.Replies.{EchoesLive, AreShortTexts, IsHeardShort, IsAnswerableBody, IsAnswerableAt, IsAnswerable}
 use Rattle.route_answers.proofs.Connections.{finished_closed}

@@ -16,12 +16,12 @@ use Rattle.capture_form.specs.Rules.{RuleSet, no_rules}
 use Rattle.trace_events.specs.Frame.{NoFrame, Spoken, frame_read}
 use Rattle.trace_events.specs.Event.{Event, Opened, In, Out, Lost, Broken}
 use Rattle.trace_events.specs.History.{history, judge}
-use Rattle.trace_clauses.specs.declared.clause.Clause.{Clause}
-use Rattle.trace_clauses.specs.declared.clause.Clause.TheVariants.{L3}
-use Rattle.trace_clauses.specs.Clauses.{first_broken}
-use Rattle.trace_clauses.specs.Written.{spoken_octets, says, written_detach}
-use Rattle.trace_clauses.proofs.Captures.{opened, lost}
-use Rattle.trace_clauses.proofs.Made.{from, write, bare, terminus, node, join, written_refusal}
+use Rattle.trace_events.specs.declared.clause.Clause.{Clause}
+use Rattle.trace_events.specs.declared.clause.Clause.TheVariants.{L3}
+use Rattle.trace_events.specs.Clauses.{first_broken}
+use Rattle.trace_events.specs.Written.{spoken_octets, says, written_detach}
+use Rattle.trace_events.proofs.Captures.{opened, lost}
+use Rattle.trace_events.proofs.Made.{from, write, bare, terminus, node, join, written_refusal}
 use Rattle.trace_duties.specs.Answer.{answer}
 use Rattle.route_answers.specs.Answering.{may_happen}
 

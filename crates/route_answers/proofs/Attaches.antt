@@ -31,8 +31,8 @@ use Rattle.trace_events.specs.Said.{in_attach}
 use Rattle.trace_events.specs.Link.{attaches_in, attaches_out, address_at, is_receiver, address_text, source_address, target_address}
 use Rattle.trace_events.specs.Fault.{terminus_fault, address_fault, target_fault, target_address_fault, source_fault, source_address_fault}
 use Rattle.trace_events.proofs.LinkSteps.{unanswered_attach-asked}
-use Rattle.trace_clauses.specs.LinkClause.{Asking, asked_by, asking, asked_address, has_dynamic_source, is_without_address, answers_one, answers_attach, is_same_sender_mode, is_same_receiver_mode}
-use Rattle.trace_clauses.specs.Written.{spoken_octets, says}
+use Rattle.trace_events.specs.LinkClause.{Asking, asked_by, asking, asked_address, has_dynamic_source, is_without_address, answers_one, answers_attach, is_same_sender_mode, is_same_receiver_mode}
+use Rattle.trace_events.specs.Written.{spoken_octets, says}
 use Rattle.trace_duties.specs.Answer.{attach_answer, attach_to_anonymous}
 use Rattle.route_answers.proofs.Words.{same_octets}
 use Rattle.route_answers.proofs.Lengths.{IsWithin, AreWithin, slots_long, nested_long, slots_fit, boolean_long, ubyte_long, flag_within}

@@ -3,7 +3,7 @@ use Rattle.std.proofs.Common.{ℕ, ◌≤◌, [], ◌∷◌, length, arith}
 use Rattle.amqp_types.proofs.Shortest.{uint_long}
 use Rattle.amqp_perf.specs.Meaning.{ABegin}
 use Rattle.amqp_perf.specs.Router.{begin_answer}
-use Rattle.trace_clauses.specs.Written.{spoken_octets, written_begin}
+use Rattle.trace_events.specs.Written.{spoken_octets, written_begin}
 use Rattle.route_answers.proofs.Lengths.{slots_fit, ushort_long}
 
 pub begin_fits : (channel : ℕ) → length (spoken_octets (written_begin channel)) ≤ 512

@@ -11,8 +11,8 @@ use Rattle.amqp_perf.specs.Writing.{error_octets, error_slots, error_value}
 use Rattle.capture_form.specs.Rules.{RuleSet}
 use Rattle.trace_events.specs.Event.{Event}
 use Rattle.trace_events.specs.Connection.{is_over, was_opened, was_finished, has_out_frame, has_out_open}
-use Rattle.trace_clauses.specs.Clauses.{first_broken}
-use Rattle.trace_clauses.specs.Written.{spoken_octets, says, error_of, written_open, written_close, written_end, written_detach}
+use Rattle.trace_events.specs.Clauses.{first_broken}
+use Rattle.trace_events.specs.Written.{spoken_octets, says, error_of, written_open, written_close, written_end, written_detach}
 use Rattle.trace_duties.specs.Answer.{closing}
 use Rattle.route_answers.specs.Writing.{writing, behind}
 use Rattle.route_answers.proofs.Words.{or_left}

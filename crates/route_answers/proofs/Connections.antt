@@ -11,9 +11,9 @@ use Rattle.trace_events.specs.Connection.{has_event, is_final, is_over, was_open
 use Rattle.trace_events.specs.Heard.{is_of_connection}
 use Rattle.trace_events.proofs.EventKinds.{in_said, out_said}
 use Rattle.trace_events.proofs.StepWords.{or-true}
-use Rattle.trace_clauses.specs.ConnectionClause.{may_be_written}
-use Rattle.trace_clauses.specs.Clauses.{first_broken}
-use Rattle.trace_clauses.proofs.OpenedConnections.{lawful-framed}
+use Rattle.trace_events.specs.ConnectionClause.{may_be_written}
+use Rattle.trace_events.specs.Clauses.{first_broken}
+use Rattle.trace_events.proofs.OpenedConnections.{lawful-framed}
 use Rattle.route_answers.specs.Answering.{was_lost}
 use Rattle.route_answers.proofs.Words.{neither}
 

@@ -13,8 +13,8 @@ use Rattle.trace_events.specs.Session.{live_session, IsLiveOn}
 use Rattle.trace_events.specs.Link.{session_link, is_consumer, IsLiveLink}
 use Rattle.trace_events.specs.Window.{next_incoming_id, next_outgoing_id}
 use Rattle.trace_events.specs.Credit.{delivery_count, link_credit, given_credit, received_count, is_draining}
-use Rattle.trace_clauses.specs.Written.{spoken_octets, says, session_numbers, link_numbers, written_session_flow, written_credit, written_count}
-use Rattle.trace_clauses.specs.FlowClause.{has_session_numbers, has_link_numbers, has_producer_numbers, has_consumer_numbers}
+use Rattle.trace_events.specs.Written.{spoken_octets, says, session_numbers, link_numbers, written_session_flow, written_credit, written_count}
+use Rattle.trace_events.specs.FlowClause.{has_session_numbers, has_link_numbers, has_producer_numbers, has_consumer_numbers}
 use Rattle.trace_duties.specs.Answer as duties
 use Rattle.route_answers.proofs.Words.{or_left, both}
 use Rattle.route_answers.proofs.Connections.{Speaks}

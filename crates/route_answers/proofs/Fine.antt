@@ -14,13 +14,13 @@ use Rattle.trace_events.specs.Said.{as_transfer}
 use Rattle.trace_events.specs.Connection.{was_opened, was_finished, has_out_frame, frame_limit}
 use Rattle.trace_events.specs.Session.{live_session, has_unanswered_begin, owes_end}
 use Rattle.trace_events.specs.Link.{session_link, owes_detach}
-use Rattle.trace_clauses.specs.declared.clause.Clause.{Clause}
-use Rattle.trace_clauses.specs.declared.clause.Clause.TheVariants.{L1, L2, L3, L10, L13, L14}
-use Rattle.trace_clauses.specs.Written.{spoken_octets, says, written_begin, written_detach}
-use Rattle.trace_clauses.specs.ConnectionClause.{may_be_written}
-use Rattle.trace_clauses.specs.LinkClause.{answers_attach}
-use Rattle.trace_clauses.specs.FlowClause.{tells_counts}
-use Rattle.trace_clauses.specs.Clauses.{spoken_meets, meaning_meets, broken_clause, clauses}
+use Rattle.trace_events.specs.declared.clause.Clause.{Clause}
+use Rattle.trace_events.specs.declared.clause.Clause.TheVariants.{L1, L2, L3, L10, L13, L14}
+use Rattle.trace_events.specs.Written.{spoken_octets, says, written_begin, written_detach}
+use Rattle.trace_events.specs.ConnectionClause.{may_be_written}
+use Rattle.trace_events.specs.LinkClause.{answers_attach}
+use Rattle.trace_events.specs.FlowClause.{tells_counts}
+use Rattle.trace_events.specs.Clauses.{spoken_meets, meaning_meets, broken_clause, clauses}
 use Rattle.route_answers.specs.Writing.{frame_of, writing}
 use Rattle.route_answers.proofs.Words.{none_broken}
 use Rattle.route_answers.proofs.Connections.{Speaks, speaks_written, close_written}

@@ -7,7 +7,7 @@ use Rattle.trace_events.specs.Event.{Event, is_out}
 use Rattle.trace_events.specs.Said.{in_open}
 use Rattle.trace_events.specs.Connection.{is_final, is_over, was_opened, was_finished, has_out_frame, has_in_open}
 use Rattle.trace_events.proofs.OverConnections.{has_event-other}
-use Rattle.trace_clauses.specs.Clauses.{first_broken}
+use Rattle.trace_events.specs.Clauses.{first_broken}
 use Rattle.trace_duties.specs.Answer.{closing}
 use Rattle.route_answers.specs.Writing.{writing, behind}
 use Rattle.route_answers.specs.Answering.{AreOpensAnswered}

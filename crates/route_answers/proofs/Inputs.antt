@@ -10,7 +10,7 @@ use Rattle.trace_events.specs.Event.{Event, Moment, Opened, In, Out, Lost, Broke
 use Rattle.trace_events.specs.Connection.{is_over, was_opened, was_finished, has_out_frame, has_in_open, has_out_close}
 use Rattle.trace_events.specs.Heard.{is_passed_over}
 use Rattle.trace_events.specs.History.{judge_moment, placed}
-use Rattle.trace_clauses.specs.Clauses.{first_broken}
+use Rattle.trace_events.specs.Clauses.{first_broken}
 use Rattle.trace_duties.specs.Answer.{answer, closing, unread_answer}
 use Rattle.route_answers.specs.Answering.{IsReady, IsAnswerInOrder, may_happen, was_lost}
 use Rattle.route_answers.proofs.Words.{or_left}

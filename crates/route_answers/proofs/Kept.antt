@@ -9,8 +9,8 @@ use Rattle.trace_events.specs.Said.{as_open, out_spoken, in_open, out_open}
 use Rattle.trace_events.specs.Connection.{is_final, is_over, has_out_frame, has_in_open}
 use Rattle.trace_events.proofs.EventKinds.{in_said}
 use Rattle.trace_events.proofs.OverConnections.{has_event-other}
-use Rattle.trace_clauses.specs.Clauses.{first_broken}
-use Rattle.trace_clauses.proofs.OpenedConnections.{IsInPlace, written-in_place}
+use Rattle.trace_events.specs.Clauses.{first_broken}
+use Rattle.trace_events.proofs.OpenedConnections.{IsInPlace, written-in_place}
 use Rattle.route_answers.specs.Answering.{AreOpensAnswered}
 use Rattle.route_answers.proofs.Words.{or_left, neither, both}
 

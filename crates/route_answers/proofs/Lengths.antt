@@ -14,7 +14,7 @@ use Rattle.amqp_frames.specs.Writing.{frame_octets, frame_size}
 use Rattle.trace_events.specs.Frame.{Spoken}
 use Rattle.trace_events.specs.Event.{Event}
 use Rattle.trace_events.specs.Connection.{frame_limit, first_open, bounded_limit}
-use Rattle.trace_clauses.specs.Written.{spoken_octets, says}
+use Rattle.trace_events.specs.Written.{spoken_octets, says}
 
 -- ---- fields, each within its own bound
 

@@ -6,8 +6,8 @@ use Rattle.capture_form.specs.Rules.{RuleSet}
 use Rattle.trace_events.specs.Frame.{Spoken}
 use Rattle.trace_events.specs.Event.{Event, is_out}
 use Rattle.trace_events.specs.Said.{as_transfer}
-use Rattle.trace_clauses.specs.Clauses.{first_broken}
-use Rattle.trace_clauses.specs.Written.{spoken_octets}
+use Rattle.trace_events.specs.Clauses.{first_broken}
+use Rattle.trace_events.specs.Written.{spoken_octets}
 use Rattle.trace_duties.specs.Answer.{answer}
 use Rattle.trace_duties.specs.Diligent.{group, up_to_input, last_answer, input_answer, begin_with, is_answered, is_of_answer, is_on_connection_of, writes, is_picked, is_due_frame, moment_keeps}
 use Rattle.route_answers.specs.Writing.{frame_of, writing, behind}

@@ -17,7 +17,7 @@ use Rattle.trace_events.proofs.ConnectionSteps.{has_in_open-stays}
 use Rattle.trace_events.proofs.SessionSteps.{live_session-same}
 use Rattle.trace_events.proofs.SessionPlaces.{live_session-framed}
 use Rattle.trace_events.proofs.LinkLives.{live_session-at}
-use Rattle.trace_clauses.specs.Clauses.{first_broken}
+use Rattle.trace_events.specs.Clauses.{first_broken}
 use Rattle.route_answers.specs.Answering.{IsReady}
 use Rattle.route_answers.proofs.Words.{both}
 use Rattle.route_answers.proofs.Connections.{Speaks}

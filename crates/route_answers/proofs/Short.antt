@@ -7,7 +7,7 @@ use Rattle.amqp_perf.specs.declared.condition.ErrorCondition.{ErrorCondition}
 use Rattle.amqp_perf.specs.Meaning.{AnOpen, ABegin, AnAttach, ADetach, AnEnd, AClose, OpenFields, AttachFields, DetachFields}
 use Rattle.amqp_perf.specs.Router.{router_open, begin_answer, attach_to_producer, attach_to_consumer, attach_refused, detach_with}
 use Rattle.amqp_perf.specs.Writing.{IsWritable}
-use Rattle.trace_clauses.specs.Written.{spoken_octets, says, error_of}
+use Rattle.trace_events.specs.Written.{spoken_octets, says, error_of}
 use Rattle.trace_duties.specs.Answer.{attach_to_anonymous}
 use Rattle.route_answers.proofs.Closing.{open_fits, close_fits, end_fits, detach_fits}
 use Rattle.route_answers.proofs.Begins.{begin_fits}

@@ -25,9 +25,9 @@ use Rattle.trace_events.proofs.Standing.{live-on}
 use Rattle.trace_events.proofs.SessionSteps.{has_unanswered_begin-asked, owes_end-ended}
 use Rattle.trace_events.proofs.LinkSteps.{owes_detach-detached, owes_detach-refused}
 use Rattle.trace_events.proofs.LinkLives.{live_session-at}
-use Rattle.trace_clauses.proofs.LiveLinks.{live-link}
-use Rattle.trace_clauses.proofs.Undecided.{link_of_session}
-use Rattle.trace_clauses.specs.Written.{spoken_octets, says, written_open, written_begin, written_end, written_detach, written_session_flow}
+use Rattle.trace_events.proofs.LiveLinks.{live-link}
+use Rattle.trace_events.proofs.Undecided.{link_of_session}
+use Rattle.trace_events.specs.Written.{spoken_octets, says, written_open, written_begin, written_end, written_detach, written_session_flow}
 use Rattle.trace_duties.specs.Answer.{closing, attach_answer, link_flow, flow_on, echo_on, plain_answer, refusal, heard_answer, passed_answer}
 use Rattle.route_answers.specs.Writing.{writing}
 use Rattle.route_answers.specs.Answering.{IsReady}

@@ -2,7 +2,7 @@
 use Rattle.std.proofs.Common.{◌≡◌, refl, ap, ◌∙◌, ℕ, Bool, true, false, ◌&&◌, ◌||◌, not, List, [], ◌∷◌, Some, None, if◌then◌else◌}
 use Rattle.std.specs.Prelude.{find, bytes_eq}
 use lib.Pointwise.{bytes_decides}
-use Rattle.trace_clauses.specs.declared.clause.Clause.{Clause}
+use Rattle.trace_events.specs.declared.clause.Clause.{Clause}
 
 pub or_left : (a b : Bool) → a ≡ true → a || b ≡ true
 or_left a b is = ap (λ x. x || b) is

@@ -5,8 +5,8 @@ use Rattle.trace_events.specs.Frame.{Spoken}
 use Rattle.trace_events.specs.Event.{Event, Moment, Opened, Out, is_lost}
 use Rattle.trace_events.specs.Said.{in_transfer, in_disposition}
 use Rattle.trace_events.specs.Connection.{has_event, is_over, was_opened, has_in_open, has_out_frame, frame_limit}
-use Rattle.trace_clauses.specs.Clauses.{broken_clause, first_broken}
-use Rattle.trace_clauses.specs.Written.{spoken_octets}
+use Rattle.trace_events.specs.Clauses.{broken_clause, first_broken}
+use Rattle.trace_events.specs.Written.{spoken_octets}
 use Rattle.trace_duties.specs.Answer.{answer}
 use Rattle.trace_duties.specs.Diligent.{moment_keeps, is_answered}
 use Rattle.trace_duties.specs.Turn.{stands_in_turn}

@@ -12,9 +12,9 @@ use Rattle.trace_events.specs.Event.{Event, Moment, In, Broken}
 use Rattle.trace_events.specs.Connection.{was_finished, has_out_close}
 use Rattle.trace_events.specs.Session.{IsLiveOn}
 use Rattle.trace_events.specs.Link.{IsLiveLink}
-use Rattle.trace_clauses.specs.Clauses.{first_broken}
-use Rattle.trace_clauses.specs.LinkClause.{asked_address}
-use Rattle.trace_clauses.specs.Written.{says, error_of}
+use Rattle.trace_events.specs.Clauses.{first_broken}
+use Rattle.trace_events.specs.LinkClause.{asked_address}
+use Rattle.trace_events.specs.Written.{says, error_of}
 use Rattle.trace_duties.specs.Answer.{attach_to_anonymous, heard_answer, passed_answer}
 use Rattle.route_answers.specs.declared.reply.Source.{Source}
 use Rattle.route_answers.specs.declared.reply.Source.TheVariants as sources

@@ -5,7 +5,7 @@ use Rattle.capture_form.specs.Rules.{RuleSet}
 use Rattle.trace_events.specs.Frame.{Frame, Says, Spoken}
 use Rattle.trace_events.specs.Event.{Event, Out}
 use Rattle.trace_events.specs.History.{judge_moment}
-use Rattle.trace_clauses.specs.Written.{spoken_octets}
+use Rattle.trace_events.specs.Written.{spoken_octets}
 
 -- a frame in the octets in which it is written
 abbrev pub frame_of : Spoken → Frame

@@ -10,9 +10,9 @@ ghost use Rattle.trace_events.specs.Event as law;
 ghost use Rattle.trace_events.specs.Session.{IsLiveOn};
 ghost use Rattle.trace_events.specs.Link.{IsLiveLink};
 ghost use Rattle.trace_events.specs.History.{judge_moment};
-ghost use Rattle.trace_clauses.specs.Clauses.{first_broken};
-ghost use Rattle.trace_clauses.specs.Written.{session_numbers};
-ghost use Rattle.trace_values.specs.View.{Events, event_view, link_view, spoken_view, body_view};
+ghost use Rattle.trace_events.specs.Clauses.{first_broken};
+ghost use Rattle.trace_events.specs.Written.{session_numbers};
+ghost use Rattle.trace_events.specs.View.{Events, event_view, link_view, spoken_view, body_view};
 ghost use Rattle.trace_duties.specs.Answer as duties;
 ghost use Rattle.route_answers.specs.Answering.{IsReady, may_happen, is_sound_transfer_or_disposition};
 ghost use Rattle.route_answers.specs.Replies.{reply_view, answer_view, IsAnswerable, IsAnswerableBody, EchoesLive, AreShortTexts, IsHeardShort, CanBeSaid, CanBeWritten, said_answer};
@@ -21,9 +21,8 @@ use crate::attach::accepted;
 use crate::reply::{Answer, Reply, Saying};
 use amqp_perf::{ErrorCondition, Flow, Performative, Role};
 use capture_form::RuleSet;
-use trace_events::{Fault, Session};
+use trace_events::{Body, Event, Fault, Link, Moment, Session, Spoken, handle_in};
 use trace_judge::{Counts, Inputs, Openings};
-use trace_values::{Body, Event, Link, Moment, Spoken, handle_in};
 
 /// A close of the connection, behind the router's open where none was written yet.
 #[tactic(auto, using(crate::proofs::Connections::framed_opened))]

@@ -9,14 +9,14 @@ ghost use Rattle.amqp_perf.specs.View.{attach_fields};
 ghost use Rattle.amqp_perf.specs.Writing.{IsWritable};
 ghost use Rattle.trace_events.specs.Address as addresses;
 ghost use Rattle.trace_events.specs.Link as links;
-ghost use Rattle.trace_clauses.specs.LinkClause as law;
-ghost use Rattle.trace_clauses.specs.Written.{says};
+ghost use Rattle.trace_events.specs.LinkClause as law;
+ghost use Rattle.trace_events.specs.Written.{says};
 ghost use Rattle.trace_duties.specs.Answer.{attach_answer, attach_to_anonymous};
 ghost use Rattle.route_answers.specs.Replies.{reply_view, source_text, is_made, CanBeSaid};
 
 use crate::reply::{Reply, Saying, Source};
 use amqp_perf::{Address, Attach, Role, Target, Terminus};
-use trace_values::is_without_address;
+use trace_events::is_without_address;
 
 /// An address that is a text; any other is empty.
 fn text_of(address: Option<Address<'_>>) -> &str

@@ -6,7 +6,7 @@ ghost use Rattle.capture_form.specs.Rules.{RuleSet};
 ghost use Rattle.trace_events.specs.Event.{Event, Moment, is_out};
 ghost use Rattle.trace_events.specs.Said.{out_open};
 ghost use Rattle.trace_events.specs.History.{judge_moment};
-ghost use Rattle.trace_clauses.specs.Clauses.{first_broken};
+ghost use Rattle.trace_events.specs.Clauses.{first_broken};
 ghost use Rattle.route_answers.specs.Answering.{IsReady, IsAnswerInOrder, AreOpensAnswered, may_happen};
 
 /// The law of answers. The function does nothing: its contract is the law.

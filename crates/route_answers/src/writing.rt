@@ -9,7 +9,7 @@ ghost use Rattle.amqp_perf.specs.Router.{attach_to_consumer};
 ghost use Rattle.amqp_perf.specs.View.{attach_fields, view};
 ghost use Rattle.amqp_perf.specs.Writing.{IsWritable};
 ghost use Rattle.trace_events.specs.Frame.{frame_read};
-ghost use Rattle.trace_clauses.specs.Written.{spoken_octets, says, error_of};
+ghost use Rattle.trace_events.specs.Written.{spoken_octets, says, error_of};
 ghost use Rattle.route_answers.specs.Writing.{frame_of};
 ghost use Rattle.route_answers.specs.Replies.{reply_view, source_text, is_made, CanBeSaid};
 
@@ -24,7 +24,7 @@ use std::alloc::AllocError;
 /// # Errors
 ///
 /// Where memory is refused: then nothing was appended.
-#[tactic(auto, unfolding(trace_clauses::specs::Written::spoken_octets))]
+#[tactic(auto, unfolding(trace_events::specs::Written::spoken_octets))]
 fn put(out: &mut Vec<u8>, channel: u16, performative: &Performative<'_>) -> Result<(), AllocError>
     requires writable { IsWritable (view performative.now) }
     requires short { length (spoken_octets (says channel (view performative.now))) ≤ 512 }

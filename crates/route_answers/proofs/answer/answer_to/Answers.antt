@@ -1,5 +1,5 @@
 use Rattle.std.proofs.Common.{sym, subst, ◌∷◌}
-use Rattle.trace_values.specs.View.{event_view}
+use Rattle.trace_events.specs.View.{event_view}
 use Rattle.route_answers.specs.Replies.{IsAnswerable}
 use Rattle.route_answers.proofs.Answerable.{answerable}
 use Rattle.route_answers.proofs.answer.answer_to.Goals as goal

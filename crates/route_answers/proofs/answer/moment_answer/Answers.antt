@@ -1,5 +1,5 @@
 use Rattle.std.proofs.Common.{subst}
-use Rattle.trace_values.specs.View.{event_view, moment_view}
+use Rattle.trace_events.specs.View.{event_view, moment_view}
 use Rattle.route_answers.specs.Replies.{IsAnswerableAt}
 use Rattle.route_answers.proofs.answer.moment_answer.Goals as goal
 

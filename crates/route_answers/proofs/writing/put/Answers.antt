@@ -1,5 +1,5 @@
 use Rattle.amqp_perf.specs.View.{view}
-use Rattle.trace_clauses.specs.Written.{says}
+use Rattle.trace_events.specs.Written.{says}
 use Rattle.route_answers.proofs.Again.{body_short, body_fits, reads_back}
 use Rattle.route_answers.proofs.writing.put.Goals as goal
 
