@@ -7,7 +7,7 @@ use Rattle.amqp_frames.specs.Writing.{frame_octets, frame_with}
 use Rattle.amqp_perf.specs.Reading.{performative_at}
 use Rattle.amqp_perf.specs.Writing.{performative_octets}
 use Rattle.trace_events.specs.Frame.{Spoken, Says, body_in, said_on, frame_read}
-use Rattle.trace_clauses.specs.Written.{spoken_octets}
+use Rattle.trace_events.specs.Written.{spoken_octets}
 use Rattle.route_dues.specs.Writing.{IsReadAgain}
 
 pub read_again : (spoken : Spoken) → (let body = performative_octets spoken.meaning ++ spoken.payload in

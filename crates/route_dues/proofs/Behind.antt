@@ -4,9 +4,9 @@ use Rattle.std.proofs.lemmas.Bool.{leb-true}
 use Rattle.flow_counts.specs.declared.profile.TheConstants.{MAX_FRAME_SIZE}
 use Rattle.trace_events.specs.Connection.{frame_limit}
 use Rattle.trace_events.proofs.Along.{and_last}
-use Rattle.trace_clauses.specs.declared.clause.Clause.TheVariants.{L1}
-use Rattle.trace_clauses.specs.ConnectionClause.{may_be_written, fits_limit}
-use Rattle.trace_clauses.proofs.ClausesMet.{met}
+use Rattle.trace_events.specs.declared.clause.Clause.TheVariants.{L1}
+use Rattle.trace_events.specs.ConnectionClause.{may_be_written, fits_limit}
+use Rattle.trace_events.proofs.ClausesMet.{met}
 use Rattle.route_dues.proofs.Lengths.{within}
 use Rattle.std.specs.Prelude.{option_map}
 use Rattle.pairing_cert.specs.declared.note.Note.{Note}
@@ -17,10 +17,10 @@ use Rattle.trace_events.specs.Words.{or_else}
 use Rattle.trace_events.specs.Frame.{Spoken}
 use Rattle.trace_events.specs.Event.{Event, Out}
 use Rattle.trace_events.specs.History.{judge, judge_moment}
-use Rattle.trace_clauses.specs.declared.clause.Clause.{Clause}
-use Rattle.trace_clauses.specs.Clauses.{first_broken, broken_clause}
-use Rattle.trace_clauses.specs.Written.{spoken_octets}
-use Rattle.trace_clauses.proofs.Lawful.{history-push}
+use Rattle.trace_events.specs.declared.clause.Clause.{Clause}
+use Rattle.trace_events.specs.Clauses.{first_broken, broken_clause}
+use Rattle.trace_events.specs.Written.{spoken_octets}
+use Rattle.trace_events.proofs.Lawful.{history-push}
 use Rattle.trace_duties.specs.Diligent.{moment_keeps, all_keep}
 use Rattle.trace_duties.proofs.CopyOrder.{copies_in_order-step}
 use Rattle.route_answers.specs.Writing.{frame_of}

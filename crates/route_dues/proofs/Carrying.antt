@@ -16,11 +16,11 @@ use Rattle.trace_events.specs.Incoming.{address_of, incoming_at, is_complete}
 use Rattle.trace_events.specs.Outgoing as outgoing
 use Rattle.trace_events.specs.Outgoing.{noted, next_delivery_id}
 use Rattle.trace_events.specs.Waiting.{is_of_multicast, is_gone}
-use Rattle.trace_clauses.specs.declared.clause.Clause.{Clause}
-use Rattle.trace_clauses.specs.declared.clause.Clause.TheVariants.{L1, L2, L3, L4, L5, L6, L7, L8, L9, L10, L11, L12, L13, L14}
-use Rattle.trace_clauses.specs.Clauses.{transfer_meets}
-use Rattle.trace_clauses.specs.TransferClause.{has_window, has_link_and_window, has_credit_and_next_id, goes_on_with, is_same_note, to_carry, has_form, has_address_and_form, names_what_may_go, carries, carries_its_octets, goes_to_one_or_is_due, is_in_order, goes_once_and_in_order, is_payload_so_far}
-use Rattle.trace_clauses.specs.Written.{first_part, next_part}
+use Rattle.trace_events.specs.declared.clause.Clause.{Clause}
+use Rattle.trace_events.specs.declared.clause.Clause.TheVariants.{L1, L2, L3, L4, L5, L6, L7, L8, L9, L10, L11, L12, L13, L14}
+use Rattle.trace_events.specs.Clauses.{transfer_meets}
+use Rattle.trace_events.specs.TransferClause.{has_window, has_link_and_window, has_credit_and_next_id, goes_on_with, is_same_note, to_carry, has_form, has_address_and_form, names_what_may_go, carries, carries_its_octets, goes_to_one_or_is_due, is_in_order, goes_once_and_in_order, is_payload_so_far}
+use Rattle.trace_events.specs.Written.{first_part, next_part}
 use Rattle.trace_duties.specs.Quiet.{has_earlier_unsent}
 use Rattle.trace_duties.specs.Order.{is_earliest}
 use Rattle.trace_duties.proofs.CopyOrder.{earliest-none, earliest-sent}

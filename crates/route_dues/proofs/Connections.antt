@@ -12,8 +12,8 @@ use Rattle.trace_events.specs.Heard.{is_of_connection}
 use Rattle.trace_events.proofs.Judged.{AreJudged, history-judged}
 use Rattle.trace_events.proofs.SessionPlaces.{live_session-framed}
 use Rattle.trace_events.proofs.StepWords.{or-true}
-use Rattle.trace_clauses.specs.ConnectionClause.{may_be_written}
-use Rattle.trace_clauses.proofs.OpenedConnections.{live_session-opened}
+use Rattle.trace_events.specs.ConnectionClause.{may_be_written}
+use Rattle.trace_events.proofs.OpenedConnections.{live_session-opened}
 use Rattle.route_answers.proofs.Connections.{not_finished, not_stopped}
 use Rattle.route_dues.specs.Writing.{IsLawful}
 

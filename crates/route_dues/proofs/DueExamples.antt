@@ -16,15 +16,15 @@ use Rattle.trace_events.specs.Link.{link_at}
 use Rattle.trace_events.specs.Incoming.{incoming_at}
 use Rattle.trace_events.specs.Outgoing.{in_progress}
 use Rattle.trace_events.specs.History.{history}
-use Rattle.trace_clauses.specs.declared.clause.Clause.{Clause}
-use Rattle.trace_clauses.specs.declared.clause.Clause.TheVariants.{L8, L10, L11}
-use Rattle.trace_clauses.specs.Clauses.{broken_clause}
-use Rattle.trace_clauses.specs.Outcome.{bare_octets}
+use Rattle.trace_events.specs.declared.clause.Clause.{Clause}
+use Rattle.trace_events.specs.declared.clause.Clause.TheVariants.{L8, L10, L11}
+use Rattle.trace_events.specs.Clauses.{broken_clause}
+use Rattle.trace_events.specs.Outcome.{bare_octets}
 use Rattle.amqp_perf.specs.declared.descriptor.Outcome.TheVariants.{Accepted}
-use Rattle.trace_clauses.specs.Written.{spoken_octets, written_transfer, first_part, next_part, written_credit, written_outcome}
+use Rattle.trace_events.specs.Written.{spoken_octets, written_transfer, first_part, next_part, written_credit, written_outcome}
 use Rattle.amqp_perf.specs.Meaning.{AFlow, ATransfer}
-use Rattle.trace_clauses.proofs.Captures.{unmarked}
-use Rattle.trace_clauses.proofs.Made.{from, from_with, carry, gives, first, with_more, hi, pair, sent, multicast, two_sent_by}
+use Rattle.trace_events.proofs.Captures.{unmarked}
+use Rattle.trace_events.proofs.Made.{from, from_with, carry, gives, first, with_more, hi, pair, sent, multicast, two_sent_by}
 use Rattle.trace_duties.specs.Diligent.{moment_keeps}
 use Rattle.trace_duties.specs.Order.{is_earliest}
 use Rattle.route_answers.specs.Writing.{frame_of}

@@ -4,7 +4,7 @@ use Rattle.std.proofs.lemmas.Bool.{ltb-false}
 use Rattle.std.proofs.lemmas.List.{take-append-drop, length-append, length-take-le}
 use Rattle.std.proofs.Math.Seq.{take-append-add}
 use lib.Pointwise.{bytes_decides}
-use Rattle.trace_clauses.specs.TransferClause.{is_payload_so_far}
+use Rattle.trace_events.specs.TransferClause.{is_payload_so_far}
 
 module _ (room : ℕ) (whole so_far : List ℕ) (first : so_far ≡ take (length so_far) whole) where
   abbrev rest : List ℕ

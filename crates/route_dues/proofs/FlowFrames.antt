@@ -20,9 +20,9 @@ use Rattle.trace_events.proofs.Along.{and_first, and_last, some_passes}
 use Rattle.trace_events.proofs.Judged.{AreJudged}
 use Rattle.trace_events.proofs.LinkLives.{live_session-at}
 use Rattle.trace_events.proofs.Links as known_links
-use Rattle.trace_clauses.specs.FlowClause.{tells_counts, has_session_numbers, has_link_numbers, has_producer_numbers, has_consumer_numbers, is_drain_answer, may_be_topped_up, full_credit, may_be_drained, drained_count, nothing_waits}
-use Rattle.trace_clauses.specs.Written.{says, spoken_octets, link_numbers, written_credit, written_count, written_session_flow}
-use Rattle.trace_clauses.proofs.WaitingQueue.{filter_has}
+use Rattle.trace_events.specs.FlowClause.{tells_counts, has_session_numbers, has_link_numbers, has_producer_numbers, has_consumer_numbers, is_drain_answer, may_be_topped_up, full_credit, may_be_drained, drained_count, nothing_waits}
+use Rattle.trace_events.specs.Written.{says, spoken_octets, link_numbers, written_credit, written_count, written_session_flow}
+use Rattle.trace_events.proofs.WaitingQueue.{filter_has}
 use Rattle.trace_duties.specs.Quiet.{lacks_window}
 use Rattle.trace_duties.specs.Diligent.{is_owed_flow, is_owed_on, writes}
 use Rattle.route_dues.specs.Work.{sendable, lacking, drainable, grantable, untold, unsettled, work_left}

@@ -11,7 +11,7 @@ use Rattle.amqp_perf.specs.declared.flow.Flow.{Flow}
 use Rattle.amqp_perf.specs.Meaning.{AFlow}
 use Rattle.amqp_perf.specs.Slots.{values_of, octets_of}
 use Rattle.amqp_perf.specs.Writing.{flow_slots, performative_octets}
-use Rattle.trace_clauses.specs.Written.{spoken_octets}
+use Rattle.trace_events.specs.Written.{spoken_octets}
 use Rattle.std.proofs.lemmas.Bool.{lt-ltb}
 
 -- ---- lists that are joined

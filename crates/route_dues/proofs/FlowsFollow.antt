@@ -18,11 +18,11 @@ use Rattle.trace_events.specs.Window.{next_incoming_id, next_outgoing_id}
 use Rattle.trace_events.specs.Credit.{received_count, given_credit, is_draining, link_credit, delivery_count}
 use Rattle.trace_events.specs.History.{link_of}
 use Rattle.trace_events.proofs.Along.{and_first}
-use Rattle.trace_clauses.specs.declared.clause.Clause.{Clause}
-use Rattle.trace_clauses.specs.declared.clause.Clause.TheVariants.{L1, L2, L3, L4, L5, L6, L7, L8, L9, L10, L11, L12, L13, L14}
-use Rattle.trace_clauses.specs.Clauses.{spoken_meets, clauses}
-use Rattle.trace_clauses.specs.FlowClause.{has_session_numbers, tells_counts, has_link_numbers, has_producer_numbers, has_consumer_numbers, is_drain_answer, may_be_topped_up, full_credit, may_be_drained, drained_count, nothing_waits}
-use Rattle.trace_clauses.specs.Written.{spoken_octets, says, written_session_flow, written_credit, written_count, session_numbers}
+use Rattle.trace_events.specs.declared.clause.Clause.{Clause}
+use Rattle.trace_events.specs.declared.clause.Clause.TheVariants.{L1, L2, L3, L4, L5, L6, L7, L8, L9, L10, L11, L12, L13, L14}
+use Rattle.trace_events.specs.Clauses.{spoken_meets, clauses}
+use Rattle.trace_events.specs.FlowClause.{has_session_numbers, tells_counts, has_link_numbers, has_producer_numbers, has_consumer_numbers, is_drain_answer, may_be_topped_up, full_credit, may_be_drained, drained_count, nothing_waits}
+use Rattle.trace_events.specs.Written.{spoken_octets, says, written_session_flow, written_credit, written_count, session_numbers}
 use Rattle.trace_duties.specs.Quiet.{lacks_window}
 use Rattle.trace_duties.specs.Diligent.{is_of_answer, is_owed_flow, is_owed_on, writes}
 use Rattle.route_answers.specs.Writing.{frame_of}

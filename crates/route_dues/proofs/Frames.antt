@@ -25,13 +25,13 @@ use Rattle.trace_events.proofs.Along.{and_first, and_last, some_passes, and_then
 use Rattle.trace_events.proofs.Judged.{AreJudged}
 use Rattle.trace_events.proofs.LinkLives.{live_session-at}
 use Rattle.trace_events.proofs.Links as known_links
-use Rattle.trace_clauses.specs.declared.clause.Clause.{Clause}
-use Rattle.trace_clauses.specs.declared.clause.Clause.TheVariants.{L4, L11, L12}
-use Rattle.trace_clauses.specs.Clauses.{spoken_meets, disposition_meets}
-use Rattle.trace_clauses.specs.DispositionClause.{settles_one, is_outcome, is_outcome_of}
-use Rattle.trace_clauses.specs.TransferClause.{has_window}
-use Rattle.trace_clauses.specs.Outcome.{may_be_told}
-use Rattle.trace_clauses.proofs.WaitingQueue.{find_has, in_reverse}
+use Rattle.trace_events.specs.declared.clause.Clause.{Clause}
+use Rattle.trace_events.specs.declared.clause.Clause.TheVariants.{L4, L11, L12}
+use Rattle.trace_events.specs.Clauses.{spoken_meets, disposition_meets}
+use Rattle.trace_events.specs.DispositionClause.{settles_one, is_outcome, is_outcome_of}
+use Rattle.trace_events.specs.TransferClause.{has_window}
+use Rattle.trace_events.specs.Outcome.{may_be_told}
+use Rattle.trace_events.proofs.WaitingQueue.{find_has, in_reverse}
 use Rattle.route_dues.specs.Work.{sendable, lacking, drainable, grantable, untold, unsettled, work_left}
 use Rattle.route_answers.specs.Writing.{frame_of}
 use Rattle.route_dues.specs.Writing.{spoken_with, writing}

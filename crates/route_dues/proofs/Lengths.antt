@@ -14,7 +14,7 @@ use Rattle.flow_counts.specs.declared.profile.TheConstants.{MAX_FRAME_SIZE}
 use Rattle.trace_events.specs.Frame.{Spoken}
 use Rattle.trace_events.specs.Event.{Event}
 use Rattle.trace_events.specs.Connection.{frame_limit, first_open, bounded_limit}
-use Rattle.trace_clauses.specs.Written.{spoken_octets, says}
+use Rattle.trace_events.specs.Written.{spoken_octets, says}
 use Rattle.route_answers.proofs.Lengths.{spoken_long}
 
 -- ---- the limit

@@ -13,12 +13,12 @@ use Rattle.trace_events.specs.Event.{Event, Out}
 use Rattle.trace_events.specs.History.{judge, judge_moment, history, moment_of}
 use Rattle.trace_events.proofs.Along.{and_last}
 use Rattle.trace_events.proofs.Judged.{AreJudged}
-use Rattle.trace_clauses.specs.declared.clause.Clause.{Clause}
-use Rattle.trace_clauses.specs.declared.clause.Clause.TheVariants.{L10}
-use Rattle.trace_clauses.specs.Clauses.{first_broken, broken_clause, spoken_meets}
-use Rattle.trace_clauses.specs.Written.{spoken_octets}
-use Rattle.trace_clauses.proofs.ClausesMet.{met}
-use Rattle.trace_clauses.proofs.Lawful.{history-push}
+use Rattle.trace_events.specs.declared.clause.Clause.{Clause}
+use Rattle.trace_events.specs.declared.clause.Clause.TheVariants.{L10}
+use Rattle.trace_events.specs.Clauses.{first_broken, broken_clause, spoken_meets}
+use Rattle.trace_events.specs.Written.{spoken_octets}
+use Rattle.trace_events.proofs.ClausesMet.{met}
+use Rattle.trace_events.proofs.Lawful.{history-push}
 use Rattle.trace_duties.specs.Diligent.{is_called_for, is_due_frame, is_of_answer, is_picked}
 use Rattle.route_answers.specs.Writing.{frame_of}
 use Rattle.route_dues.specs.Writing.{spoken_with, writing, IsReadAgain, MayFollow}

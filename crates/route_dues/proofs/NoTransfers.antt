@@ -14,7 +14,7 @@ use Rattle.trace_events.specs.Frame.{Body, NoFrame, Empty, NoPerformative, Says,
 use Rattle.trace_events.specs.Event.{Event, Link, Moment, Opened, In, Out, Lost, Broken}
 use Rattle.trace_events.specs.Connection.{has_out_open, has_out_close}
 use Rattle.trace_events.specs.Credit.{begins_outgoing, delivery_count, link_credit, given_credit}
-use Rattle.trace_clauses.specs.Written.{written_open, written_close, written_credit, written_count}
+use Rattle.trace_events.specs.Written.{written_open, written_close, written_credit, written_count}
 use Rattle.trace_events.specs.Link.{is_consumer}
 use Rattle.trace_events.specs.Said.{as_transfer}
 use Rattle.trace_duties.specs.Answer.{answer, closing, link_flow, flow_on, echo_on, plain_answer, refusal, fault_answer, heard_answer, passed_answer, unread_answer, body_answer, moment_answer}

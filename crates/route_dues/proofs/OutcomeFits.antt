@@ -4,7 +4,7 @@ use Rattle.flow_counts.specs.declared.profile.TheConstants.{MAX_FRAME_SIZE}
 use Rattle.amqp_perf.specs.Meaning.{ADisposition, DispositionFields}
 use Rattle.amqp_perf.specs.Router.{outcome_told, delivery_failed, FitsFrame}
 use Rattle.amqp_perf.specs.Writing.{IfThere}
-use Rattle.trace_clauses.specs.Written.{spoken_octets, says, written_outcome}
+use Rattle.trace_events.specs.Written.{spoken_octets, says, written_outcome}
 use Rattle.route_dues.specs.Outcomes.{octets_in}
 use Rattle.amqp_types.specs.Writing.{fits_octet}
 use Rattle.amqp_perf.specs.declared.descriptor.Outcome.{Outcome}
@@ -18,8 +18,8 @@ use Rattle.trace_events.specs.Link.{is_live}
 use Rattle.trace_events.specs.Disposition.{terminal_state}
 use Rattle.trace_events.specs.Outgoing.{pairing, decision}
 use Rattle.trace_events.specs.Waiting.{is_gone, is_of_multicast}
-use Rattle.trace_clauses.specs.BestVerdict.{told_octets, whole_verdict}
-use Rattle.trace_clauses.specs.Outcome.{row, anycast_row, paired_row, fits_producer, outcome_octets, bare_outcome, bare_octets, is_sent_settled}
+use Rattle.trace_events.specs.BestVerdict.{told_octets, whole_verdict}
+use Rattle.trace_events.specs.Outcome.{row, anycast_row, paired_row, fits_producer, outcome_octets, bare_outcome, bare_octets, is_sent_settled}
 use Rattle.trace_judge.specs.OutcomeSize.{state_size, uint_size}
 use Rattle.trace_judge.proofs.OutcomeSizes.{outcome_long}
 use Rattle.route_dues.proofs.Lengths.{limit_least}

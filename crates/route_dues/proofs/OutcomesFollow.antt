@@ -22,18 +22,18 @@ use Rattle.trace_events.specs.Settling.{to_tell}
 use Rattle.trace_events.specs.History.{told_by_role}
 use Rattle.trace_events.proofs.Along.{and_first, and_last}
 use Rattle.trace_events.proofs.Judged.{AreJudged}
-use Rattle.trace_clauses.specs.declared.clause.Clause.{Clause}
-use Rattle.trace_clauses.specs.declared.clause.Clause.TheVariants.{L1, L2, L3, L4, L5, L6, L7, L8, L9, L10, L11, L12, L13, L14}
-use Rattle.trace_clauses.specs.Clauses.{spoken_meets, clauses}
-use Rattle.trace_clauses.specs.DispositionClause.{is_outcome_of, tells_by}
-use Rattle.trace_clauses.specs.Outcome.{may_be_told, row}
-use Rattle.trace_clauses.specs.Written.{spoken_octets, says, written_outcome}
-use Rattle.trace_clauses.proofs.IdsApart.{AreApart, history_apart, found_any, one_found}
-use Rattle.trace_clauses.proofs.IncomingProgress.{judged-kept}
-use Rattle.trace_clauses.proofs.LinkEnds.{lives-live}
-use Rattle.trace_clauses.proofs.OneConsumer.{not-true}
-use Rattle.trace_clauses.proofs.Parts.{delivery_kept}
-use Rattle.trace_clauses.proofs.PartsGoOn.{complete-whole}
+use Rattle.trace_events.specs.declared.clause.Clause.{Clause}
+use Rattle.trace_events.specs.declared.clause.Clause.TheVariants.{L1, L2, L3, L4, L5, L6, L7, L8, L9, L10, L11, L12, L13, L14}
+use Rattle.trace_events.specs.Clauses.{spoken_meets, clauses}
+use Rattle.trace_events.specs.DispositionClause.{is_outcome_of, tells_by}
+use Rattle.trace_events.specs.Outcome.{may_be_told, row}
+use Rattle.trace_events.specs.Written.{spoken_octets, says, written_outcome}
+use Rattle.trace_events.proofs.IdsApart.{AreApart, history_apart, found_any, one_found}
+use Rattle.trace_events.proofs.IncomingProgress.{judged-kept}
+use Rattle.trace_events.proofs.LinkEnds.{lives-live}
+use Rattle.trace_events.proofs.OneConsumer.{not-true}
+use Rattle.trace_events.proofs.Parts.{delivery_kept}
+use Rattle.trace_events.proofs.PartsGoOn.{complete-whole}
 use Rattle.trace_duties.specs.Diligent.{is_of_answer}
 use Rattle.route_answers.specs.Writing.{frame_of}
 use Rattle.route_dues.specs.Writing.{writing, IsLawful, MayFollow}

@@ -23,7 +23,7 @@ use Rattle.trace_events.proofs.Along.{and_first}
 use Rattle.trace_events.proofs.Judged.{AreJudged}
 use Rattle.trace_events.proofs.LinkNumbers.{links-found}
 use Rattle.trace_events.proofs.Links.{IsKnown}
-use Rattle.trace_clauses.proofs.WaitingQueue.{contains_none, contains_cases, in_filter}
+use Rattle.trace_events.proofs.WaitingQueue.{contains_none, contains_cases, in_filter}
 use Rattle.trace_duties.specs.Quiet.{lacks_window}
 use Rattle.route_dues.specs.Work.{to_consumers, from_producers, sendable, lacking, drainable, grantable, untold, unsettled}
 use Rattle.route_dues.proofs.OwnCounts.{IsOurs, IsOurCredit, window-most, window-less, lacks, lacks-most, lacks-less, credit-most, credit-less, short-most, short-less}

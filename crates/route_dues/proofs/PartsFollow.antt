@@ -16,10 +16,10 @@ use Rattle.trace_events.specs.Outgoing.{next_delivery_id, noted}
 use Rattle.trace_events.specs.History.{link_of, new_outgoing}
 use Rattle.trace_events.proofs.Judged.{AreBorn, IsBorn}
 use Rattle.trace_events.proofs.OutgoingSteps.{payload-same}
-use Rattle.trace_clauses.specs.declared.clause.Clause.{Clause}
-use Rattle.trace_clauses.specs.declared.clause.Clause.TheVariants.{L1, L2, L3, L4, L5, L6, L7, L8, L9, L10, L11, L12, L13, L14}
-use Rattle.trace_clauses.specs.Clauses.{transfer_meets, spoken_meets, broken_clause, clauses}
-use Rattle.trace_clauses.specs.Written.{spoken_octets, written_transfer, first_part, next_part}
+use Rattle.trace_events.specs.declared.clause.Clause.{Clause}
+use Rattle.trace_events.specs.declared.clause.Clause.TheVariants.{L1, L2, L3, L4, L5, L6, L7, L8, L9, L10, L11, L12, L13, L14}
+use Rattle.trace_events.specs.Clauses.{transfer_meets, spoken_meets, broken_clause, clauses}
+use Rattle.trace_events.specs.Written.{spoken_octets, written_transfer, first_part, next_part}
 use Rattle.trace_duties.specs.Diligent.{is_picked, is_due_frame, is_of_answer, is_filled_transfer, filled, transfer_fields, rest, moment_keeps}
 use Rattle.route_answers.specs.Writing.{frame_of}
 use Rattle.route_dues.specs.Writing.{writing, IsLawful, MayFollow}

@@ -10,7 +10,7 @@ use Rattle.amqp_perf.specs.Writing.{performative_octets}
 use Rattle.trace_events.specs.Event.{Event, Link}
 use Rattle.trace_events.specs.Connection.{frame_limit}
 use Rattle.trace_events.specs.Frame.{Spoken}
-use Rattle.trace_clauses.specs.Written.{spoken_octets, first_part}
+use Rattle.trace_events.specs.Written.{spoken_octets, first_part}
 use Rattle.route_dues.specs.Writing.{spoken_with, IsReadAgain}
 use Rattle.route_dues.specs.Transfers.{filled_on}
 use Rattle.route_answers.proofs.Lengths.{spoken_long}

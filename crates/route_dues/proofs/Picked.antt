@@ -18,10 +18,10 @@ use Rattle.trace_events.specs.Incoming.{address_of}
 use Rattle.trace_events.proofs.Along.{and_first, and_last}
 use Rattle.trace_events.proofs.Judged.{AreJudged}
 use Rattle.trace_events.proofs.LinkNumbers.{links-found}
-use Rattle.trace_clauses.proofs.OneOutcome.{number-some}
-use Rattle.trace_clauses.proofs.WaitingQueue.{contains_first, contains_later, contains_none, contains_cases, all_contained, in_reverse, in_filter}
+use Rattle.trace_events.proofs.OneOutcome.{number-some}
+use Rattle.trace_events.proofs.WaitingQueue.{contains_first, contains_later, contains_none, contains_cases, all_contained, in_reverse, in_filter}
 use Rattle.trace_duties.specs.Consumers.{address_events}
-use Rattle.trace_clauses.specs.TransferClause.{may_take}
+use Rattle.trace_events.specs.TransferClause.{may_take}
 use Rattle.trace_duties.specs.Pick.{is_eligible, pick}
 use Rattle.trace_duties.specs.Diligent.{is_picked_link}
 use Rattle.trace_duties.proofs.ConsumersCounted.{consumers-counted}

@@ -13,8 +13,8 @@ use Rattle.trace_events.proofs.LinkLives.{judged-stands, live_session-at}
 use Rattle.trace_events.proofs.Links as known_links
 use Rattle.trace_events.proofs.SessionNumbers.{last_session-known}
 use Rattle.trace_events.proofs.Sessions as known_sessions
-use Rattle.trace_clauses.proofs.Undecided.{link_of_session}
-use Rattle.trace_clauses.proofs.WaitingQueue.{find_has}
+use Rattle.trace_events.proofs.Undecided.{link_of_session}
+use Rattle.trace_events.proofs.WaitingQueue.{find_has}
 
 last_of : (over : Bool) (last : Option Session) (s : Session) → (if over then None else last) ≡ Some s → last ≡ Some s
 last_of true last s is = absurd cc

@@ -16,13 +16,13 @@ use Rattle.trace_events.specs.Due.{is_unsent}
 use Rattle.trace_events.proofs.Along.{and_first, and_last}
 use Rattle.trace_events.proofs.Judged.{AreJudged, judged-born}
 use Rattle.trace_events.proofs.StepWords.{and-false}
-use Rattle.trace_clauses.proofs.FirstSent.{due_copy, GoesFirst, copy_goes_first, waiting_goes_first}
-use Rattle.trace_clauses.proofs.IncomingProgress.{judged-kept}
-use Rattle.trace_clauses.proofs.Parts.{IsKept, each_delivery}
-use Rattle.trace_clauses.proofs.WaitingQueue.{all_contained}
-use Rattle.trace_clauses.proofs.LinkEnds.{lives-live}
-use Rattle.trace_clauses.proofs.OutgoingProgress.{judged-carrying, carrying-noted, carrying-not_gone, carrying-link}
-use Rattle.trace_clauses.specs.TransferClause.{is_in_order, may_take}
+use Rattle.trace_events.proofs.FirstSent.{due_copy, GoesFirst, copy_goes_first, waiting_goes_first}
+use Rattle.trace_events.proofs.IncomingProgress.{judged-kept}
+use Rattle.trace_events.proofs.Parts.{IsKept, each_delivery}
+use Rattle.trace_events.proofs.WaitingQueue.{all_contained}
+use Rattle.trace_events.proofs.LinkEnds.{lives-live}
+use Rattle.trace_events.proofs.OutgoingProgress.{judged-carrying, carrying-noted, carrying-not_gone, carrying-link}
+use Rattle.trace_events.specs.TransferClause.{is_in_order, may_take}
 use Rattle.trace_duties.specs.Quiet.{stands_still, has_earlier_unsent}
 use Rattle.trace_duties.specs.Diligent.{is_next_waiting, is_picked_link, all_keep}
 use Rattle.trace_duties.specs.Order.{CopiesInOrder}

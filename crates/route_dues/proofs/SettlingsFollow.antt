@@ -18,13 +18,13 @@ use Rattle.trace_events.specs.Outgoing.{outgoing_deliveries, noted, answering, d
 use Rattle.trace_events.specs.Settling.{is_closed, is_to_settle, to_settle}
 use Rattle.trace_events.specs.History.{settled_by_role}
 use Rattle.trace_events.proofs.Along.{and_first, and_last}
-use Rattle.trace_clauses.specs.declared.clause.Clause.{Clause}
-use Rattle.trace_clauses.specs.declared.clause.Clause.TheVariants.{L1, L2, L3, L4, L5, L6, L7, L8, L9, L10, L11, L12, L13, L14}
-use Rattle.trace_clauses.specs.Clauses.{spoken_meets, clauses}
-use Rattle.trace_clauses.specs.Written.{spoken_octets, written_settling}
-use Rattle.trace_clauses.proofs.BegunDeliveries.{IsBegun, judged-begun}
-use Rattle.trace_clauses.proofs.LinkEnds.{lives-live}
-use Rattle.trace_clauses.proofs.WaitingQueue.{all_contained, reverse_has, contains_none, contains_cases}
+use Rattle.trace_events.specs.declared.clause.Clause.{Clause}
+use Rattle.trace_events.specs.declared.clause.Clause.TheVariants.{L1, L2, L3, L4, L5, L6, L7, L8, L9, L10, L11, L12, L13, L14}
+use Rattle.trace_events.specs.Clauses.{spoken_meets, clauses}
+use Rattle.trace_events.specs.Written.{spoken_octets, written_settling}
+use Rattle.trace_events.proofs.BegunDeliveries.{IsBegun, judged-begun}
+use Rattle.trace_events.proofs.LinkEnds.{lives-live}
+use Rattle.trace_events.proofs.WaitingQueue.{all_contained, reverse_has, contains_none, contains_cases}
 use Rattle.trace_duties.specs.Diligent.{is_of_answer}
 use Rattle.route_answers.specs.Writing.{frame_of}
 use Rattle.route_dues.specs.Writing.{writing, IsLawful, MayFollow}

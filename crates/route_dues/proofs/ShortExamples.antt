@@ -4,7 +4,7 @@ use Rattle.amqp_types.specs.Writing.{list_octets, uint_octets, boolean_octets, n
 use Rattle.amqp_perf.specs.declared.attach.Role.TheVariants.{Receiver}
 use Rattle.amqp_perf.specs.Meaning.{ADisposition}
 use Rattle.amqp_frames.specs.Writing.{frame_octets}
-use Rattle.trace_clauses.specs.Written.{spoken_octets, written_settling, says, state_of}
+use Rattle.trace_events.specs.Written.{spoken_octets, written_settling, says, state_of}
 use Rattle.route_dues.specs.Short.{front_octets, count_with, decided}
 
 -- the settling of delivery 3 on channel 1: five octets behind fourteen, in four fields

@@ -23,7 +23,7 @@ use Rattle.amqp_frames.specs.Writing.{frame_octets, frame_size}
 use Rattle.amqp_frames.proofs.FrameWritten.{frame_again, spoken_again}
 use Rattle.trace_events.specs.Frame.{Spoken}
 use Rattle.trace_events.specs.Event.{Link}
-use Rattle.trace_clauses.specs.Written.{spoken_octets, written_transfer, first_part, says, state_of}
+use Rattle.trace_events.specs.Written.{spoken_octets, written_transfer, first_part, says, state_of}
 use Rattle.route_dues.specs.Writing.{spoken_with, IsReadAgain}
 use Rattle.route_dues.specs.Short.{front_octets, count_with, decided}
 use Rattle.route_dues.proofs.Again.{read_again}

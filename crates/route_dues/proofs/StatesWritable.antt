@@ -36,9 +36,9 @@ use Rattle.trace_events.specs.History.{moment_of}
 use Rattle.trace_events.proofs.Along.{if_some}
 use Rattle.trace_events.proofs.Judged.{AreJudged}
 use Rattle.trace_events.proofs.Links.{passing}
-use Rattle.trace_clauses.specs.BestVerdict.{told_octets, whole_verdict}
-use Rattle.trace_clauses.specs.Outcome.{row, anycast_row, paired_row, fits_producer, outcome_octets, bare_outcome, bare_octets, is_sent_settled}
-use Rattle.trace_clauses.specs.Written.{spoken_octets, written_outcome}
+use Rattle.trace_events.specs.BestVerdict.{told_octets, whole_verdict}
+use Rattle.trace_events.specs.Outcome.{row, anycast_row, paired_row, fits_producer, outcome_octets, bare_outcome, bare_octets, is_sent_settled}
+use Rattle.trace_events.specs.Written.{spoken_octets, written_outcome}
 use Rattle.trace_judge.specs.OutcomeSize.{uint_size}
 use Rattle.trace_judge.proofs.OutcomeSizes.{outcome_long}
 use Rattle.route_dues.specs.Writing.{IsLawful}

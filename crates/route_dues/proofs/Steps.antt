@@ -11,10 +11,10 @@ use Rattle.trace_events.specs.Event.{Event, Moment, Opened, In, Out, Lost, Broke
 use Rattle.trace_events.specs.Said.{as_transfer}
 use Rattle.trace_events.specs.Credit.{begins_outgoing}
 use Rattle.trace_events.specs.History.{judge, judge_moment, history, moment_of}
-use Rattle.trace_clauses.specs.declared.clause.Clause.{Clause}
-use Rattle.trace_clauses.specs.Clauses.{first_broken, broken_clause}
-use Rattle.trace_clauses.specs.Written.{spoken_octets}
-use Rattle.trace_clauses.proofs.Lawful.{history-push}
+use Rattle.trace_events.specs.declared.clause.Clause.{Clause}
+use Rattle.trace_events.specs.Clauses.{first_broken, broken_clause}
+use Rattle.trace_events.specs.Written.{spoken_octets}
+use Rattle.trace_events.proofs.Lawful.{history-push}
 use Rattle.trace_duties.specs.Answer.{answer}
 use Rattle.trace_duties.specs.Diligent.{moment_keeps, all_keep, is_answered, is_diligent}
 use Rattle.trace_duties.specs.Quiet.{is_quiet}

@@ -3,7 +3,7 @@ use Rattle.std.proofs.Common.{◌≡◌, sym, ℕ, ◌+◌, ◌≤◌, ◌<◌, 
 use Rattle.std.specs.Prelude.{Contains}
 use Rattle.std.specs.List.{sum_by}
 use Rattle.std.proofs.lemmas.List.Sums.{sum_by-cons}
-use Rattle.trace_clauses.proofs.WaitingQueue.{contains_none, contains_cases, contains_first, contains_later}
+use Rattle.trace_events.proofs.WaitingQueue.{contains_none, contains_cases, contains_first, contains_later}
 
 module _ {A : Type 0} (f g : A → ℕ) where
   pub sum-most : (xs : List A) → ((x : A) → Contains xs x → f x ≤ g x) → sum_by f xs ≤ sum_by g xs

@@ -14,7 +14,7 @@ use Rattle.amqp_perf.specs.Writing.{performative_octets}
 use Rattle.amqp_perf.proofs.Lengths.{flag_long}
 use Rattle.trace_events.specs.Event.{Event, Link}
 use Rattle.trace_events.specs.Connection.{frame_limit}
-use Rattle.trace_clauses.specs.Written.{spoken_octets, written_transfer, first_part, next_part}
+use Rattle.trace_events.specs.Written.{spoken_octets, written_transfer, first_part, next_part}
 use Rattle.route_dues.specs.Transfers.{room_on, filled_on}
 use Rattle.route_answers.proofs.Lengths.{spoken_long}
 use Rattle.route_dues.proofs.Lengths.{limit_least}

@@ -20,9 +20,9 @@ use Rattle.trace_events.specs.Waiting.{is_of_multicast}
 use Rattle.trace_events.specs.Due.{is_unsent}
 use Rattle.trace_events.specs.History.{link_of}
 use Rattle.trace_events.proofs.Along.{and_first}
-use Rattle.trace_clauses.specs.FlowClause.{full_credit, drained_count}
-use Rattle.trace_clauses.specs.Written.{says, session_numbers, written_transfer, first_part, next_part, written_settling, written_session_flow, written_credit, written_count}
-use Rattle.trace_clauses.proofs.FirstSent.{due_copy}
+use Rattle.trace_events.specs.FlowClause.{full_credit, drained_count}
+use Rattle.trace_events.specs.Written.{says, session_numbers, written_transfer, first_part, next_part, written_settling, written_session_flow, written_credit, written_count}
+use Rattle.trace_events.proofs.FirstSent.{due_copy}
 use Rattle.trace_duties.specs.Quiet.{none_is_untold, stands_still, none_stands_still}
 use Rattle.trace_duties.specs.Diligent.{is_of_answer}
 use Rattle.trace_duties.specs.Turn.{is_all_told, is_all_sent, is_all_drained, is_first_to_begin, begins_in_turn, link_flow_in_turn, is_all_credited, stands_in_turn}

@@ -6,7 +6,7 @@ use Rattle.amqp_perf.specs.Router.{outcome_told, FitsFrame}
 use Rattle.amqp_perf.specs.Writing.{IsWritableState}
 use Rattle.trace_events.specs.Frame.{Spoken}
 use Rattle.trace_events.specs.Event.{Incoming}
-use Rattle.trace_clauses.specs.Written.{says}
+use Rattle.trace_events.specs.Written.{says}
 
 abbrev pub octets_in : Option StateFields → Option (List ℕ)
 octets_in state = option_map (λ s. s.octets) state

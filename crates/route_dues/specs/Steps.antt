@@ -6,7 +6,7 @@ use Rattle.capture_form.specs.Rules.{RuleSet}
 use Rattle.trace_events.specs.Frame.{Spoken}
 use Rattle.trace_events.specs.Event.{Event}
 use Rattle.trace_events.specs.Said.{as_transfer}
-use Rattle.trace_clauses.specs.Written.{spoken_octets}
+use Rattle.trace_events.specs.Written.{spoken_octets}
 use Rattle.trace_duties.specs.Diligent.{is_answered}
 use Rattle.trace_duties.specs.Quiet.{is_quiet}
 use Rattle.trace_duties.specs.Turn.{are_in_turn}

@@ -7,7 +7,7 @@ use Rattle.trace_events.specs.Connection.{frame_limit}
 use Rattle.trace_events.specs.Incoming as incoming
 use Rattle.trace_events.specs.Outgoing as outgoing
 use Rattle.trace_events.specs.Outgoing.{next_delivery_id}
-use Rattle.trace_clauses.specs.Written.{spoken_octets, written_transfer, first_part, next_part}
+use Rattle.trace_events.specs.Written.{spoken_octets, written_transfer, first_part, next_part}
 
 -- how many octets of payload a transfer of these fields has room for: what its frame leaves without any, whether or not
 -- more follows

@@ -7,8 +7,8 @@ use Rattle.capture_form.specs.Rules.{RuleSet}
 use Rattle.trace_events.specs.Frame.{Spoken, frame_read}
 use Rattle.trace_events.specs.Event.{Event, Out}
 use Rattle.trace_events.specs.History.{judge_moment, history}
-use Rattle.trace_clauses.specs.Clauses.{first_broken, broken_clause}
-use Rattle.trace_clauses.specs.Written.{spoken_octets}
+use Rattle.trace_events.specs.Clauses.{first_broken, broken_clause}
+use Rattle.trace_events.specs.Written.{spoken_octets}
 use Rattle.trace_duties.specs.Diligent.{moment_keeps, all_keep}
 use Rattle.trace_duties.specs.Order.{CopiesInOrder, is_earliest}
 use Rattle.route_answers.specs.Writing.{frame_of}

@@ -7,8 +7,8 @@ ghost use Rattle.amqp_types.specs.Writing.{Puts};
 ghost use Rattle.amqp_perf.specs.NestedViews.{state_view};
 ghost use Rattle.amqp_perf.specs.Router.{FitsFrame};
 ghost use Rattle.amqp_perf.specs.Writing.{IfThere, IsWritableState};
-ghost use Rattle.trace_clauses.specs.Written.{spoken_octets, written_outcome, written_settling};
-ghost use Rattle.trace_values.specs.View.{incoming_view};
+ghost use Rattle.trace_events.specs.Written.{spoken_octets, written_outcome, written_settling};
+ghost use Rattle.trace_events.specs.View.{incoming_view};
 ghost use Rattle.route_dues.specs.Outcomes.{octets_in, outcome_frame};
 ghost use Rattle.route_dues.specs.Writing.{IsReadAgain};
 
@@ -16,7 +16,7 @@ use crate::frame::put_spoken;
 use crate::short::{SHORT_STATE, octets_if, put_decided};
 use amqp_perf::{Disposition, Performative, Role, State};
 use std::alloc::AllocError;
-use trace_values::{Incoming, Outgoing};
+use trace_events::{Incoming, Outgoing};
 
 /// The octets of a state, if there is one.
 fn raw_of<'a>(state: Option<State<'a>>) -> Option<&'a [u8]>

@@ -8,18 +8,17 @@ ghost use Rattle.amqp_perf.specs.Meaning.{AFlow};
 ghost use Rattle.capture_form.specs.Rules.{RuleSet};
 ghost use Rattle.trace_events.specs.Session.{IsLiveOn};
 ghost use Rattle.trace_events.specs.Link.{IsLiveLink};
-ghost use Rattle.trace_clauses.specs.FlowClause as law;
-ghost use Rattle.trace_clauses.specs.Written.{says, spoken_octets, link_numbers, written_session_flow, written_credit, written_count};
-ghost use Rattle.trace_values.specs.View.{link_view, Events};
+ghost use Rattle.trace_events.specs.FlowClause as law;
+ghost use Rattle.trace_events.specs.Written.{says, spoken_octets, link_numbers, written_session_flow, written_credit, written_count};
+ghost use Rattle.trace_events.specs.View.{link_view, Events};
 ghost use Rattle.route_dues.specs.Writing.{IsReadAgain};
 
 use crate::frame::put_spoken;
 use amqp_perf::{Flow, Performative};
 use capture_form::RuleSet;
 use std::alloc::AllocError;
-use trace_events::Session;
+use trace_events::{Link, Session};
 use trace_judge::{Counts, full_credit};
-use trace_values::Link;
 
 /// Appends the flow that gives a live session its window anew.
 ///

@@ -5,7 +5,7 @@ ghost use Rattle.flow_counts.specs.declared.profile.TheConstants.{MAX_FRAME_SIZE
 ghost use Rattle.amqp_types.specs.Writing.{Puts};
 ghost use Rattle.amqp_perf.specs.View.{view};
 ghost use Rattle.amqp_perf.specs.Writing.{IsWritable};
-ghost use Rattle.trace_clauses.specs.Written.{spoken_octets};
+ghost use Rattle.trace_events.specs.Written.{spoken_octets};
 ghost use Rattle.route_dues.specs.Writing.{spoken_with, IsReadAgain};
 
 use amqp_frames::put_frame;
@@ -17,7 +17,7 @@ use std::alloc::AllocError;
 /// # Errors
 ///
 /// Where memory is refused: then nothing was appended.
-#[tactic(auto, unfolding(trace_clauses::specs::Written::spoken_octets))]
+#[tactic(auto, unfolding(trace_events::specs::Written::spoken_octets))]
 pub(crate) fn put_spoken(
     out: &mut Vec<u8>,
     channel: u16,

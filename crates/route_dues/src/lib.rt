@@ -11,7 +11,7 @@
 //!
 //! In `specs/`, `Writing` is a frame as the next event, and what may follow a history; `Transfers` and `Outcomes` are
 //! the frames of these kinds, `Short` what is in front of their fields, `Steps` the law of a step, and `Work` the number.
-//! All other frames are those of `trace_clauses/specs/Written`.
+//! All other frames are those of `trace_events/specs/Written`.
 #![tactic(auto)]
 
 mod dispositions;

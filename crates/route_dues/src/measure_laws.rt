@@ -8,7 +8,7 @@ ghost use Rattle.capture_form.specs.declared.records.What.TheVariants as whats;
 ghost use Rattle.trace_events.specs.Frame.{Spoken};
 ghost use Rattle.trace_events.specs.Event.{Event};
 ghost use Rattle.trace_events.specs.History.{history};
-ghost use Rattle.trace_clauses.specs.Written.{spoken_octets};
+ghost use Rattle.trace_events.specs.Written.{spoken_octets};
 ghost use Rattle.route_dues.specs.Writing.{writing, IsReadAgain, MayFollow};
 ghost use Rattle.route_dues.specs.Steps.{IsUnderWay};
 ghost use Rattle.route_dues.specs.Work.{work_left};

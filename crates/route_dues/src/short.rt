@@ -12,8 +12,8 @@ ghost use Rattle.amqp_perf.specs.Slots.{uint_value, CanStand};
 ghost use Rattle.amqp_perf.specs.Meaning.{ADisposition};
 ghost use Rattle.amqp_perf.specs.Nested.{StateFields};
 ghost use Rattle.amqp_perf.specs.Writing.{role_value, IsWritable};
-ghost use Rattle.trace_clauses.specs.Written.{spoken_octets, written_transfer, first_part, state_of, says};
-ghost use Rattle.trace_values.specs.View.{link_view};
+ghost use Rattle.trace_events.specs.Written.{spoken_octets, written_transfer, first_part, state_of, says};
+ghost use Rattle.trace_events.specs.View.{link_view};
 ghost use Rattle.route_dues.specs.Writing.{IsReadAgain};
 ghost use Rattle.route_dues.specs.declared.short.TheConstants.{SHORT_STATE};
 ghost use Rattle.route_dues.specs.Short.{front_octets, count_with, decided};
@@ -21,7 +21,7 @@ ghost use Rattle.route_dues.specs.Short.{front_octets, count_with, decided};
 use amqp_perf::Role;
 use amqp_types::put_parts;
 use std::alloc::AllocError;
-use trace_values::Link;
+use trace_events::Link;
 
 /// How many octets stand in front of the fields: the frame's header, the descriptor, and the list's code, size and count.
 const FRONT_OCTETS: usize = 14;

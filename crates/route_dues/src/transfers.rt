@@ -8,8 +8,8 @@ ghost use Rattle.trace_events.specs.Event as law;
 ghost use Rattle.trace_events.specs.Incoming as received;
 ghost use Rattle.trace_events.specs.Outgoing as sent;
 ghost use Rattle.trace_events.specs.Link.{IsLiveLink};
-ghost use Rattle.trace_clauses.specs.Written.{spoken_octets, written_transfer, first_part, next_part};
-ghost use Rattle.trace_values.specs.View.{incoming_view, link_view, Events};
+ghost use Rattle.trace_events.specs.Written.{spoken_octets, written_transfer, first_part, next_part};
+ghost use Rattle.trace_events.specs.View.{incoming_view, link_view, Events};
 ghost use Rattle.route_dues.specs.Writing.{IsReadAgain};
 ghost use Rattle.route_dues.specs.Transfers.{first_frame, next_frame};
 
@@ -17,8 +17,8 @@ use crate::frame::put_spoken;
 use crate::short::put_first_part;
 use amqp_perf::{Performative, Transfer};
 use std::alloc::AllocError;
+use trace_events::{Incoming, Link};
 use trace_judge::{Counts, Outcomes};
-use trace_values::{Incoming, Link};
 
 /// How many octets the frame of a first part has beside its payload and three numbers: header, descriptor and list, tag and two
 /// flags.

@@ -5,7 +5,7 @@ use Rattle.amqp_perf.specs.Meaning.{ADisposition}
 use Rattle.amqp_perf.specs.NestedViews.{state_view}
 use Rattle.amqp_perf.specs.Router.{outcome_told}
 use Rattle.amqp_perf.proofs.Writable.{outcome_writable}
-use Rattle.trace_clauses.specs.Written.{spoken_octets, says, state_of, written_outcome}
+use Rattle.trace_events.specs.Written.{spoken_octets, says, state_of, written_outcome}
 use Rattle.route_dues.specs.Outcomes.{octets_in}
 use Rattle.route_dues.specs.Short.{decided}
 use Rattle.route_dues.specs.Writing.{spoken_with, IsReadAgain}

@@ -2,7 +2,7 @@ use Rattle.std.proofs.Common.{subst}
 use Rattle.amqp_perf.specs.Meaning.{ADisposition}
 use Rattle.amqp_perf.specs.Router.{settling}
 use Rattle.amqp_perf.proofs.Writable.{settling_writable}
-use Rattle.trace_clauses.specs.Written.{written_settling}
+use Rattle.trace_events.specs.Written.{written_settling}
 use Rattle.route_dues.specs.Writing.{IsReadAgain}
 use Rattle.route_dues.proofs.Lengths.{settling_short, short_within}
 use Rattle.std.proofs.Common.{None}

@@ -1,5 +1,5 @@
 use Rattle.std.proofs.Common.{subst, ◌<◌, ◌^◌}
-use Rattle.trace_values.specs.View.{link_view}
+use Rattle.trace_events.specs.View.{link_view}
 use Rattle.route_dues.proofs.ShortFrames.{first_again, first_counted, first_written, puts_same}
 use Rattle.route_dues.proofs.short.put_first_part.Goals as goal
 

@@ -1,5 +1,5 @@
 use Rattle.std.proofs.Common.{arith}
-use Rattle.trace_values.specs.View.{link_view}
+use Rattle.trace_events.specs.View.{link_view}
 use Rattle.route_dues.proofs.TransferLengths.{later_sized}
 use Rattle.route_dues.proofs.transfers.later_room.Goals as goal
 

@@ -1,6 +1,6 @@
 use Rattle.std.proofs.Common.{refl, subst, true, length, nat_lt}
-use Rattle.trace_values.specs.View.{link_view, incoming_view}
-use Rattle.trace_clauses.specs.Written.{first_part}
+use Rattle.trace_events.specs.View.{link_view, incoming_view}
+use Rattle.trace_events.specs.Written.{first_part}
 use Rattle.trace_events.specs.Incoming as received
 use Rattle.route_dues.specs.Writing.{IsReadAgain}
 use Rattle.route_dues.specs.Transfers.{filled_on}

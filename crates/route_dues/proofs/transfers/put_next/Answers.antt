@@ -1,7 +1,7 @@
 use Rattle.std.proofs.Common.{refl, true, drop, length}
 use Rattle.amqp_perf.specs.View.{transfer_fields}
-use Rattle.trace_values.specs.View.{link_view}
-use Rattle.trace_clauses.specs.Written.{next_part}
+use Rattle.trace_events.specs.View.{link_view}
+use Rattle.trace_events.specs.Written.{next_part}
 use Rattle.trace_events.specs.Incoming as received
 use Rattle.trace_events.specs.Outgoing as sent
 use Rattle.route_dues.proofs.TransferLengths.{next_same, next_short}
