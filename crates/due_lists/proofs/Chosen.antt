@@ -21,11 +21,11 @@ use Rattle.trace_events.specs.Waiting.{always_had_consumer, is_of_multicast, is_
 use Rattle.trace_events.proofs.Along.{and_first, some_passes}
 use Rattle.trace_events.proofs.Judged.{AreJudged}
 use Rattle.trace_events.proofs.Links.{passing}
-use Rattle.trace_clauses.proofs.IncomingProgress.{judged-kept}
-use Rattle.trace_clauses.proofs.WaitingQueue.{contains_none, contains_cases, contains_first, contains_later, filter_has, reverse_has, waits_queued}
+use Rattle.trace_events.proofs.IncomingProgress.{judged-kept}
+use Rattle.trace_events.proofs.WaitingQueue.{contains_none, contains_cases, contains_first, contains_later, filter_has, reverse_has, waits_queued}
 use Rattle.trace_duties.specs.Consumers.{address_events}
 use Rattle.trace_duties.specs.Diligent.{is_next_waiting}
-use Rattle.trace_clauses.specs.TransferClause.{may_take}
+use Rattle.trace_events.specs.TransferClause.{may_take}
 use Rattle.trace_duties.specs.Pick.{is_eligible, pick}
 use Rattle.trace_duties.proofs.ConsumersCounted.{consumers-counted}
 use Rattle.state_tables.specs.ConsumerLinks.{consumer_at, is_live_consumer}

@@ -17,12 +17,12 @@ use Rattle.trace_events.specs.Window.{session_window}
 use Rattle.trace_events.proofs.Along.{and_first}
 use Rattle.trace_events.proofs.Judged.{AreJudged}
 use Rattle.trace_events.proofs.StepWords.{and-false}
-use Rattle.trace_clauses.proofs.FirstSent.{copy_goes_first, due_copy}
-use Rattle.trace_clauses.proofs.IncomingProgress.{judged-kept}
-use Rattle.trace_clauses.proofs.Parts.{IsKept, each_delivery}
-use Rattle.trace_clauses.proofs.UnsentCopies.{unsent_complete}
-use Rattle.trace_clauses.proofs.WaitingQueue.{all_contained, completed_below}
-use Rattle.trace_clauses.specs.TransferClause.{may_take, to_carry}
+use Rattle.trace_events.proofs.FirstSent.{copy_goes_first, due_copy}
+use Rattle.trace_events.proofs.IncomingProgress.{judged-kept}
+use Rattle.trace_events.proofs.Parts.{IsKept, each_delivery}
+use Rattle.trace_events.proofs.UnsentCopies.{unsent_complete}
+use Rattle.trace_events.proofs.WaitingQueue.{all_contained, completed_below}
+use Rattle.trace_events.specs.TransferClause.{may_take, to_carry}
 use Rattle.trace_duties.specs.Quiet.{has_earlier_unsent, is_held_back, copies_are_sent}
 use Rattle.trace_duties.proofs.QuietLists.{all-each}
 use Rattle.trace_duties.proofs.PicksInOrder.{none-before}
@@ -45,7 +45,7 @@ use Rattle.trace_events.specs.Incoming.{address_of, completed_by, completes}
 use Rattle.trace_events.specs.Link.{is_live}
 use Rattle.trace_events.specs.Waiting.{is_of_multicast}
 use Rattle.trace_events.proofs.Along.{and_last}
-use Rattle.trace_clauses.proofs.OneConsumer.{some-and}
+use Rattle.trace_events.proofs.OneConsumer.{some-and}
 use Rattle.state_tables.specs.ConsumerLinks.{consumer_at}
 use Rattle.due_lists.specs.UnsentNumbers.{Waits, copy_on, waits}
 use Rattle.due_lists.specs.declared.unsent_numbers.UnsentNumbers.{UnsentNumbers}

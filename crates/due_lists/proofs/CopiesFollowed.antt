@@ -19,10 +19,10 @@ use Rattle.trace_events.proofs.Along.{and_first, and_last}
 use Rattle.trace_events.proofs.IncomingSteps.{completion-same, completion-here}
 use Rattle.trace_events.proofs.OutgoingSteps.{is_part_on}
 use Rattle.trace_events.proofs.Judged.{AreJudged, judged-number}
-use Rattle.trace_clauses.specs.Clauses.{first_broken}
-use Rattle.trace_clauses.proofs.UnsentCopies.{unsent_complete}
-use Rattle.trace_clauses.proofs.WaitingQueue.{completed_below, completed_once, completion_complete}
-use Rattle.trace_clauses.specs.TransferClause.{may_take}
+use Rattle.trace_events.specs.Clauses.{first_broken}
+use Rattle.trace_events.proofs.UnsentCopies.{unsent_complete}
+use Rattle.trace_events.proofs.WaitingQueue.{completed_below, completed_once, completion_complete}
+use Rattle.trace_events.specs.TransferClause.{may_take}
 use Rattle.state_tables.specs.Addressed.{IsAddressed}
 use Rattle.state_tables.specs.ConsumerLinks.{has_link, consumer_at}
 use Rattle.state_tables.specs.Copies.{AreReceivers, names_at}

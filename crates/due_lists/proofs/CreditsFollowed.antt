@@ -10,13 +10,13 @@ use Rattle.trace_events.specs.Ends.{ends_link}
 use Rattle.trace_events.specs.Incoming.{is_aborted, is_complete, is_settled, is_told}
 use Rattle.trace_events.specs.Link.{IsLiveLink, is_consumer, is_producer, is_live, live_links, own_link}
 use Rattle.trace_events.specs.Waiting.{has_waiting, is_undecided, is_unpaired, always_had_consumer}
-use Rattle.trace_clauses.specs.Clauses.{first_broken}
-use Rattle.trace_clauses.specs.FlowClause.{may_be_topped_up}
+use Rattle.trace_events.specs.Clauses.{first_broken}
+use Rattle.trace_events.specs.FlowClause.{may_be_topped_up}
 use Rattle.trace_events.proofs.Judged.{AreJudged}
 use Rattle.trace_events.proofs.LinkLives.{judged-stands}
 use Rattle.trace_events.proofs.LinkNumbers.{own_link-number}
 use Rattle.trace_events.proofs.Links.{passing}
-use Rattle.trace_clauses.proofs.ClausesMet.{lawful-past}
+use Rattle.trace_events.proofs.ClausesMet.{lawful-past}
 use Rattle.trace_duties.specs.Quiet.{none_lacks_credit}
 use Rattle.trace_duties.proofs.QuietLists.{all-each}
 use Rattle.state_incoming.specs.EntryAnswers.{Knows}

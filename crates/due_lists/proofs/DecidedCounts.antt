@@ -14,7 +14,7 @@ use Rattle.trace_events.specs.Outgoing.{outgoing_deliveries, outgoing_at, answer
 use Rattle.trace_events.specs.Work.{decides_now}
 use Rattle.trace_events.proofs.Judged.{AreJudged}
 use Rattle.trace_events.proofs.SettlingSteps.{is_decided-step}
-use Rattle.trace_clauses.proofs.WaitingQueue.{in_filter, filter_has}
+use Rattle.trace_events.proofs.WaitingQueue.{in_filter, filter_has}
 use Rattle.trace_duties.specs.Consumers.{decides_outgoing}
 use Rattle.trace_duties.proofs.ConsumersCounted.{decided_count}
 use Rattle.state_outgoing.specs.Sent.{Sent, sent, is_left_unsettled}

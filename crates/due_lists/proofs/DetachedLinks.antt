@@ -7,8 +7,8 @@ use Rattle.flow_counts.specs.Picks.{AddressEvent, Detached}
 use Rattle.address_table.specs.declared.table.Table.{Table}
 use Rattle.trace_events.specs.Event as law
 use Rattle.trace_events.specs.Link.{is_consumer}
-use Rattle.trace_values.specs.View.{link_view}
-use Rattle.trace_values.specs.declared.event.Link.{Link}
+use Rattle.trace_events.specs.View.{link_view}
+use Rattle.trace_events.specs.declared.event.Link.{Link}
 use Rattle.state_tables.specs.EndedLinks.{views}
 use Rattle.due_lists.specs.AddressCounts.{CountsMore, DetachesAll, detached_all}
 use Rattle.due_lists.proofs.Moves.{counts-then}

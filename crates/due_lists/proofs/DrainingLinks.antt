@@ -19,8 +19,8 @@ use Rattle.trace_events.specs.Outgoing.{outgoing_begun, names, is_paired, is_nam
 use Rattle.trace_events.specs.Queue.{pairs}
 use Rattle.trace_events.specs.Due.{is_due, is_unsent, has_unsent, makes_due, due_count}
 use Rattle.trace_events.specs.Waiting.{is_of_multicast, is_waiting, always_had_consumer, has_waiting}
-use Rattle.trace_clauses.specs.Clauses.{first_broken}
-use Rattle.trace_clauses.specs.FlowClause.{nothing_waits}
+use Rattle.trace_events.specs.Clauses.{first_broken}
+use Rattle.trace_events.specs.FlowClause.{nothing_waits}
 use Rattle.trace_events.proofs.Along.{and_first, and_last, some_passes}
 use Rattle.trace_events.proofs.DueSteps.{is_unsent-stays}
 use Rattle.trace_events.proofs.EveryStep.{is_paired-step}
@@ -30,10 +30,10 @@ use Rattle.trace_events.proofs.LinkLives.{judged-stands}
 use Rattle.trace_events.proofs.LinkNumbers.{own_link-number}
 use Rattle.trace_events.proofs.Links as known
 use Rattle.trace_events.proofs.OutgoingSteps.{names_on}
-use Rattle.trace_clauses.proofs.BegunDeliveries.{begun-own, begun-written, begun-carries}
-use Rattle.trace_clauses.proofs.IncomingProgress.{judged-kept}
-use Rattle.trace_clauses.proofs.Parts.{IsKept, each_delivery}
-use Rattle.trace_clauses.proofs.WaitingQueue.{address_stays, all_contained, completed_once, multicast_stays}
+use Rattle.trace_events.proofs.BegunDeliveries.{begun-own, begun-written, begun-carries}
+use Rattle.trace_events.proofs.IncomingProgress.{judged-kept}
+use Rattle.trace_events.proofs.Parts.{IsKept, each_delivery}
+use Rattle.trace_events.proofs.WaitingQueue.{address_stays, all_contained, completed_once, multicast_stays}
 use Rattle.due_lists.specs.Draining.{IsDraining, is_drain, asks_drain, writes_part}
 use Rattle.due_lists.proofs.LiveOnes.{link-before, link-found, link-lives}
 use Rattle.due_lists.proofs.Members.{some-passes, none-passes, found-contained, contains-more}

@@ -6,8 +6,8 @@ use Rattle.trace_events.specs.Event.{Event, Link}
 use Rattle.trace_events.specs.Ends.{ends_link}
 use Rattle.trace_events.specs.Link.{IsLiveLink, is_consumer, live_links}
 use Rattle.trace_events.specs.Credit.{link_credit, is_draining}
-use Rattle.trace_clauses.specs.Clauses.{first_broken}
-use Rattle.trace_clauses.specs.FlowClause.{may_be_drained, nothing_waits}
+use Rattle.trace_events.specs.Clauses.{first_broken}
+use Rattle.trace_events.specs.FlowClause.{may_be_drained, nothing_waits}
 use Rattle.trace_events.proofs.Judged.{AreJudged}
 use Rattle.trace_duties.specs.Quiet.{none_is_undrained}
 use Rattle.trace_duties.proofs.QuietLists.{all-each}

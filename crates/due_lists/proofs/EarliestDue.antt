@@ -11,10 +11,10 @@ use Rattle.trace_events.specs.Outgoing.{is_paired}
 use Rattle.trace_events.specs.Waiting.{always_had_consumer, is_of_multicast, is_waiting}
 use Rattle.trace_events.proofs.Along.{and_last}
 use Rattle.trace_events.proofs.Judged.{AreJudged}
-use Rattle.trace_clauses.proofs.CompletionOrder.{before-is}
-use Rattle.trace_clauses.proofs.WaitingQueue.{completed_below}
+use Rattle.trace_events.proofs.CompletionOrder.{before-is}
+use Rattle.trace_events.proofs.WaitingQueue.{completed_below}
 use Rattle.trace_duties.specs.Diligent.{is_next_waiting}
-use Rattle.trace_values.specs.View.{incoming_view}
+use Rattle.trace_events.specs.View.{incoming_view}
 use Rattle.due_lists.proofs.Members.{none-passes, found-contained}
 use Rattle.due_lists.specs.Waiting.{IsDueWaiting, earlier_of, is_ahead}
 use Rattle.due_lists.specs.Waking.{MayBegin}

@@ -14,10 +14,10 @@ use Rattle.trace_events.specs.Link.{IsLiveLink, is_consumer, is_live, link_at}
 use Rattle.trace_events.proofs.Judged.{AreJudged}
 use Rattle.trace_events.proofs.LinkNumbers.{judged-found}
 use Rattle.trace_events.proofs.Links.{passing}
-use Rattle.trace_clauses.proofs.LinkEnds.{lives-live}
-use Rattle.trace_clauses.proofs.WaitingQueue.{contains_first, contains_later, contains_cases, in_filter}
+use Rattle.trace_events.proofs.LinkEnds.{lives-live}
+use Rattle.trace_events.proofs.WaitingQueue.{contains_first, contains_later, contains_cases, in_filter}
 use Rattle.trace_duties.specs.Consumers.{address_events}
-use Rattle.trace_clauses.specs.TransferClause.{may_take}
+use Rattle.trace_events.specs.TransferClause.{may_take}
 use Rattle.trace_duties.specs.Pick.{is_eligible, pick}
 use Rattle.trace_duties.proofs.ConsumerCounts.{listed-is}
 use Rattle.trace_duties.proofs.LinksCounted.{counted, counted_at, consumer-counted}

@@ -16,9 +16,9 @@ use Rattle.trace_events.proofs.LinkLives.{judged-stands}
 use Rattle.trace_events.proofs.Links.{IsKnown}
 use Rattle.trace_events.proofs.LinkNumbers.{any-at, judged-found, same-sym}
 use Rattle.trace_events.proofs.SessionNumbers.{last_session-known}
-use Rattle.trace_clauses.proofs.LinkEnds.{is_live-next, lives-live}
+use Rattle.trace_events.proofs.LinkEnds.{is_live-next, lives-live}
 use Rattle.state_answers.proofs.LiveKnown.{live-known, live-lives}
-use Rattle.trace_clauses.proofs.WaitingQueue.{contains_none, contains_first, contains_later, contains_cases, in_filter, filter_has}
+use Rattle.trace_events.proofs.WaitingQueue.{contains_none, contains_first, contains_later, contains_cases, in_filter, filter_has}
 use Rattle.trace_duties.specs.Consumers.{detaches_consumer}
 
 -- ---- what a test finds in a list

@@ -10,10 +10,10 @@ use Rattle.trace_events.specs.Link.{is_consumer, is_live, links}
 use Rattle.trace_events.specs.Waiting.{is_waiting}
 use Rattle.trace_events.proofs.Along.{and_first, and_last}
 use Rattle.trace_events.proofs.Judged.{AreJudged}
-use Rattle.trace_clauses.proofs.IncomingProgress.{judged-kept}
-use Rattle.trace_clauses.proofs.Parts.{IsKept, each_delivery}
-use Rattle.trace_clauses.proofs.WaitingQueue.{all_contained, contains_first, filter_has, in_filter, in_reverse}
-use Rattle.trace_clauses.specs.TransferClause.{may_take}
+use Rattle.trace_events.proofs.IncomingProgress.{judged-kept}
+use Rattle.trace_events.proofs.Parts.{IsKept, each_delivery}
+use Rattle.trace_events.proofs.WaitingQueue.{all_contained, contains_first, filter_has, in_filter, in_reverse}
+use Rattle.trace_events.specs.TransferClause.{may_take}
 use Rattle.trace_duties.specs.Pick.{eligible}
 use Rattle.trace_duties.specs.Quiet.{none_waits_in_vain}
 use Rattle.trace_duties.specs.Turn.{is_first_to_begin}

@@ -16,8 +16,8 @@ use Rattle.trace_events.proofs.LinkLives.{judged-stands}
 use Rattle.trace_events.proofs.LinkNumbers.{links-found}
 use Rattle.trace_events.proofs.SessionNumbers.{last_session-known, sessions-found, judged-event_session, one_number}
 use Rattle.trace_events.proofs.Sessions.{IsKnown}
-use Rattle.trace_clauses.proofs.LinkEnds.{lives-live, is_live-next, judged-is_live_session}
-use Rattle.trace_clauses.proofs.WaitingQueue.{contains_none, contains_cases, contains_first, contains_later}
+use Rattle.trace_events.proofs.LinkEnds.{lives-live, is_live-next, judged-is_live_session}
+use Rattle.trace_events.proofs.WaitingQueue.{contains_none, contains_cases, contains_first, contains_later}
 
 -- ---- elements of lists
 

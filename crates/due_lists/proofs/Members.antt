@@ -2,7 +2,7 @@
 use Rattle.std.proofs.Common.{◌≡◌, refl, sym, ap, subst, ◌∙◌, Bool, true, false, ◌||◌, inl, inr, List, [], ◌∷◌, Option, Some, None, find, if◌then◌else◌}
 use Rattle.std.specs.Prelude.{Contains}
 use Rattle.std.specs.List.{list_any, cons_option}
-use Rattle.trace_clauses.proofs.WaitingQueue.{contains_none, contains_cases, contains_first, contains_later}
+use Rattle.trace_events.proofs.WaitingQueue.{contains_none, contains_cases, contains_first, contains_later}
 
 module _ {A : Type 0} (test : A → Bool) where
   pub some-passes : (xs : List A) → list_any test xs ≡ true → (x : A) × (Contains xs x × (test x ≡ true))

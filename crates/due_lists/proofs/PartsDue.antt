@@ -10,12 +10,12 @@ use Rattle.trace_events.specs.Incoming.{is_complete}
 use Rattle.trace_events.specs.Outgoing as outgoing
 use Rattle.trace_events.specs.Outgoing.{in_progress, noted, outgoing_at}
 use Rattle.trace_events.specs.Waiting.{is_gone}
-use Rattle.trace_clauses.specs.Clauses.{first_broken}
-use Rattle.trace_clauses.specs.Kept.{AreFirst}
-use Rattle.trace_clauses.specs.TransferClause.{to_carry}
+use Rattle.trace_events.specs.Clauses.{first_broken}
+use Rattle.trace_events.specs.Kept.{AreFirst}
+use Rattle.trace_events.specs.TransferClause.{to_carry}
 use Rattle.trace_events.proofs.Judged.{AreJudged}
-use Rattle.trace_clauses.proofs.OneConsumer.{passes-some}
-use Rattle.trace_clauses.proofs.OutgoingProgress.{judged-carrying, carrying-noted, carrying-not_gone}
+use Rattle.trace_events.proofs.OneConsumer.{passes-some}
+use Rattle.trace_events.proofs.OutgoingProgress.{judged-carrying, carrying-noted, carrying-not_gone}
 use Rattle.state_tables.specs.LetGo.{names_let_go}
 use Rattle.state_tables.specs.ConsumerLinks.{consumer_at, is_live_consumer}
 use Rattle.state_tables.proofs.ConsumerLinkSteps.{consumer-lives}

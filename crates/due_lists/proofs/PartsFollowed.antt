@@ -9,10 +9,10 @@ use Rattle.trace_events.specs.Ends.{ends_link}
 use Rattle.trace_events.specs.Link.{IsLiveLink, is_consumer, is_live, live_links, link_at}
 use Rattle.trace_events.specs.Outgoing.{in_progress}
 use Rattle.trace_events.proofs.OutgoingSteps.{is_part_on}
-use Rattle.trace_clauses.specs.Clauses.{first_broken}
+use Rattle.trace_events.specs.Clauses.{first_broken}
 use Rattle.trace_events.proofs.Judged.{AreJudged}
-use Rattle.trace_clauses.proofs.LinkEnds.{is_live-next}
-use Rattle.trace_clauses.proofs.WaitingQueue.{contains_first, contains_later}
+use Rattle.trace_events.proofs.LinkEnds.{is_live-next}
+use Rattle.trace_events.proofs.WaitingQueue.{contains_first, contains_later}
 use Rattle.trace_duties.specs.Quiet.{stands_still, none_stands_still}
 use Rattle.trace_duties.proofs.QuietLists.{all-each}
 use Rattle.state_tables.specs.ConsumerLinks.{has_link}

@@ -14,7 +14,7 @@ use Rattle.trace_events.specs.Waiting.{is_of_multicast, is_waiting, always_had_c
 use Rattle.trace_events.proofs.Judged.{AreJudged}
 use Rattle.trace_events.proofs.QueueSteps.{completed-complete, each-map, filter-cons, filter-each, filter-reverse, is_waiting-stays, one-alone}
 use Rattle.trace_events.proofs.StepWords.{filter-both}
-use Rattle.trace_clauses.proofs.WaitingQueue.{contains_cases, contains_first, contains_later, contains_none, address_stays, completed_once, in_filter, in_reverse}
+use Rattle.trace_events.proofs.WaitingQueue.{contains_cases, contains_first, contains_later, contains_none, address_stays, completed_once, in_filter, in_reverse}
 use Rattle.due_lists.specs.Queues.{is_of, completed_at, IsQueue}
 
 -- ---- the queue is those of all complete ones that wait

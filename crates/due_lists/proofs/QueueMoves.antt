@@ -16,9 +16,9 @@ use Rattle.trace_events.specs.Outgoing.{is_paired}
 use Rattle.trace_events.specs.Queue.{completed_deliveries}
 use Rattle.trace_events.specs.Waiting.{is_of_multicast, is_waiting, always_had_consumer}
 use Rattle.trace_events.proofs.Judged.{AreJudged}
-use Rattle.trace_clauses.proofs.IncomingProgress.{judged-kept}
-use Rattle.trace_clauses.proofs.Parts.{IsKept}
-use Rattle.trace_clauses.proofs.WaitingQueue.{all_contained, contains_first, contains_later, contains_none, contains_cases, each_completed}
+use Rattle.trace_events.proofs.IncomingProgress.{judged-kept}
+use Rattle.trace_events.proofs.Parts.{IsKept}
+use Rattle.trace_events.proofs.WaitingQueue.{all_contained, contains_first, contains_later, contains_none, contains_cases, each_completed}
 use Rattle.state_tables.specs.LetGo.{is_let_go}
 use Rattle.state_incoming.specs.Held.{Held, held, held_at, is_held, says_waiting}
 use Rattle.state_incoming.specs.declared.held.Fate.TheVariants.{Arriving, Waiting, Gone, Paired, Copied}

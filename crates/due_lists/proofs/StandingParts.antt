@@ -13,12 +13,12 @@ use Rattle.trace_events.specs.Link.{own_link}
 use Rattle.trace_events.specs.Outgoing.{in_progress}
 use Rattle.trace_events.specs.Window.{window_event, window_events}
 use Rattle.trace_events.proofs.OutgoingSteps.{is_part_on}
-use Rattle.trace_clauses.specs.Clauses.{first_broken}
+use Rattle.trace_events.specs.Clauses.{first_broken}
 use Rattle.trace_events.proofs.Along.{and_first}
 use Rattle.trace_events.proofs.Judged.{AreJudged}
 use Rattle.trace_events.proofs.LinkNumbers.{own_link-number}
-use Rattle.trace_clauses.proofs.ClausesMet.{lawful-past}
-use Rattle.trace_clauses.proofs.OutgoingProgress.{judged-carrying, carrying-link}
+use Rattle.trace_events.proofs.ClausesMet.{lawful-past}
+use Rattle.trace_events.proofs.OutgoingProgress.{judged-carrying, carrying-link}
 use Rattle.due_lists.specs.Standing.{IsGoing, has_window, goes_on, is_their_flow, grants_window}
 use Rattle.due_lists.proofs.LiveOnes.{link-before, link-found, event-session}
 

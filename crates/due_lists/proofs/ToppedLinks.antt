@@ -24,18 +24,18 @@ use Rattle.trace_events.specs.Disposition.{covers_id}
 use Rattle.trace_events.specs.Ends.{ends_link}
 use Rattle.trace_events.specs.History.{judge}
 use Rattle.trace_events.specs.Waiting.{is_of_multicast, is_undecided, is_unpaired, is_waiting, always_had_consumer, undecided_count}
-use Rattle.trace_clauses.specs.Clauses.{first_broken}
-use Rattle.trace_clauses.specs.FlowClause.{may_be_topped_up}
+use Rattle.trace_events.specs.Clauses.{first_broken}
+use Rattle.trace_events.specs.FlowClause.{may_be_topped_up}
 use Rattle.trace_events.proofs.Along.{and_first, and_last, some_passes}
 use Rattle.trace_events.proofs.Judged.{AreJudged, judged-number}
 use Rattle.trace_events.proofs.LinkNumbers.{links-found}
 use Rattle.trace_events.proofs.Links.{passing}
-use Rattle.trace_clauses.proofs.IncomingProgress.{judged-kept, progress-kept}
-use Rattle.trace_clauses.proofs.LinkEnds.{is_live-next, lives-live}
-use Rattle.trace_clauses.proofs.Parts.{IsKept, IsPart, record_part, each_delivery}
-use Rattle.trace_clauses.proofs.Undecided.{part_link}
-use Rattle.trace_clauses.proofs.UndecidedCount.{undecided_count_moves}
-use Rattle.trace_clauses.proofs.WaitingQueue.{all_contained, contains_cases, contains_first, contains_later}
+use Rattle.trace_events.proofs.IncomingProgress.{judged-kept, progress-kept}
+use Rattle.trace_events.proofs.LinkEnds.{is_live-next, lives-live}
+use Rattle.trace_events.proofs.Parts.{IsKept, IsPart, record_part, each_delivery}
+use Rattle.trace_events.proofs.Undecided.{part_link}
+use Rattle.trace_events.proofs.UndecidedCount.{undecided_count_moves}
+use Rattle.trace_events.proofs.WaitingQueue.{all_contained, contains_cases, contains_first, contains_later}
 use Rattle.due_lists.specs.Topping.{IsDecidedOn, IsServedFirst, EndsWaited, settles}
 use Rattle.due_lists.proofs.LiveOnes.{all-contained, event-session, link-found, link-lives}
 use Rattle.due_lists.proofs.DrainingLinks.{on-link, waits-on}

@@ -21,13 +21,13 @@ use Rattle.trace_events.proofs.Links as links
 use Rattle.trace_events.proofs.OutgoingSteps.{names_on}
 use Rattle.trace_events.proofs.SessionPlaces.{session-connection}
 use Rattle.trace_events.proofs.StepWords.{and-false}
-use Rattle.trace_clauses.specs.Clauses.{first_broken}
-use Rattle.trace_clauses.proofs.IncomingProgress.{judged-kept}
-use Rattle.trace_clauses.proofs.Incomings.{judged-sound}
-use Rattle.trace_clauses.proofs.OneConsumer.{some-and, found-at}
-use Rattle.trace_clauses.proofs.Parts.{IsKept, holds_some}
-use Rattle.trace_clauses.proofs.Undecided.{link_of_session}
-use Rattle.trace_clauses.proofs.UnsentCopies.{unsent_complete}
+use Rattle.trace_events.specs.Clauses.{first_broken}
+use Rattle.trace_events.proofs.IncomingProgress.{judged-kept}
+use Rattle.trace_events.proofs.Incomings.{judged-sound}
+use Rattle.trace_events.proofs.OneConsumer.{some-and, found-at}
+use Rattle.trace_events.proofs.Parts.{IsKept, holds_some}
+use Rattle.trace_events.proofs.Undecided.{link_of_session}
+use Rattle.trace_events.proofs.UnsentCopies.{unsent_complete}
 use Rattle.state_tables.specs.Addressed.{IsAddressed}
 use Rattle.state_tables.specs.ConsumerLinks.{consumer_at}
 use Rattle.state_tables.specs.Copies.{AreReceiversOf, AreReceivers, copied_by, names_at}

@@ -10,7 +10,7 @@ use Rattle.trace_events.specs.Incoming.{address_of, completed_by, completes}
 use Rattle.trace_events.specs.Link.{IsLiveLink, is_consumer, opened_consumer}
 use Rattle.trace_events.proofs.IncomingSteps.{address_of-same}
 use Rattle.trace_events.proofs.Judged.{AreJudged}
-use Rattle.trace_clauses.specs.Clauses.{first_broken}
+use Rattle.trace_events.specs.Clauses.{first_broken}
 use Rattle.state_tables.specs.ConsumerLinks.{consumer_at, has_link}
 use Rattle.due_lists.specs.Standing.{goes_on, grants_window}
 use Rattle.due_lists.proofs.LiveOnes.{link-before}

@@ -24,13 +24,13 @@ use Rattle.trace_events.proofs.OutgoingSteps.{is_part_on}
 use Rattle.trace_events.proofs.Judged.{AreJudged}
 use Rattle.trace_events.proofs.LinkNumbers.{own_link-number}
 use Rattle.trace_events.proofs.QueueSteps.{is_waiting-stays}
-use Rattle.trace_clauses.specs.Clauses.{first_broken}
-use Rattle.trace_clauses.proofs.ClausesMet.{lawful-past}
-use Rattle.trace_clauses.proofs.Incomings.{judged-sound}
-use Rattle.trace_clauses.proofs.IncomingProgress.{judged-kept}
-use Rattle.trace_clauses.proofs.OneConsumer.{found-at}
-use Rattle.trace_clauses.proofs.OutgoingProgress.{IsPartOf, judged-outgoing_part, judged-carrying}
-use Rattle.trace_clauses.proofs.Parts.{IsKept, holds_some}
+use Rattle.trace_events.specs.Clauses.{first_broken}
+use Rattle.trace_events.proofs.ClausesMet.{lawful-past}
+use Rattle.trace_events.proofs.Incomings.{judged-sound}
+use Rattle.trace_events.proofs.IncomingProgress.{judged-kept}
+use Rattle.trace_events.proofs.OneConsumer.{found-at}
+use Rattle.trace_events.proofs.OutgoingProgress.{IsPartOf, judged-outgoing_part, judged-carrying}
+use Rattle.trace_events.proofs.Parts.{IsKept, holds_some}
 use Rattle.due_lists.specs.Standing.{goes_on, has_window, is_their_flow}
 use Rattle.due_lists.proofs.DrainingLinks.{event-link, link-unused, on-link}
 use Rattle.due_lists.proofs.LiveOnes.{link-before, link-found}

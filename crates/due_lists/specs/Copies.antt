@@ -5,9 +5,9 @@ use Rattle.trace_events.specs.Event.{Event, Link, Incoming}
 use Rattle.trace_events.specs.Link.{IsLiveLink, is_consumer, link_at}
 use Rattle.trace_events.specs.Incoming.{incoming_at, payload, completion}
 use Rattle.trace_events.specs.Due.{is_unsent, has_unsent}
-use Rattle.trace_clauses.specs.TransferClause.{may_take}
+use Rattle.trace_events.specs.TransferClause.{may_take}
 use Rattle.trace_duties.specs.Quiet.{has_earlier_unsent}
-use Rattle.trace_values.specs.View.{link_view, incoming_view}
+use Rattle.trace_events.specs.View.{link_view, incoming_view}
 use Rattle.state_tables.specs.Copies.{AreCopies}
 use Rattle.state_incoming.specs.EntryAnswers.{Knows}
 use Rattle.state_incoming.specs.declared.deliveries.Deliveries.{Deliveries}

@@ -12,7 +12,7 @@ use Rattle.trace_events.specs.Address.{has_consumer}
 use Rattle.trace_events.specs.Link.{is_consumer, is_producer, own_link, opened_consumer}
 use Rattle.trace_events.specs.Outgoing.{carried_number}
 use Rattle.trace_events.specs.Waiting.{has_waiting}
-use Rattle.trace_clauses.specs.FlowClause.{may_be_topped_up}
+use Rattle.trace_events.specs.FlowClause.{may_be_topped_up}
 use Rattle.state_incoming.specs.EntryAnswers.{Knows}
 use Rattle.state_tables.specs.ConsumerLinks.{has_link}
 use Rattle.state_answers.specs.declared.lent_tables.LentTables.{LentTables}

@@ -7,7 +7,7 @@ use Rattle.trace_events.specs.Event.{Event, Link}
 use Rattle.trace_events.specs.Said.{in_meaning, out_transfer}
 use Rattle.trace_events.specs.Link.{IsLiveLink, is_consumer}
 use Rattle.trace_events.specs.Credit.{is_draining}
-use Rattle.trace_clauses.specs.FlowClause.{may_be_drained}
+use Rattle.trace_events.specs.FlowClause.{may_be_drained}
 
 -- a consumer's live link whose client asks that its credit be used up
 pub record IsDraining (l : Link) (past : List Event) : Type 0 where

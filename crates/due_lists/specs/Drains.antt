@@ -3,7 +3,7 @@ use Rattle.std.specs.Prelude.{◌≡◌, ℕ, Bool, true, List}
 use Rattle.number_groups.specs.OctetGroups.{is_member}
 use Rattle.capture_form.specs.Rules.{RuleSet}
 use Rattle.trace_events.specs.Event.{Event, Link}
-use Rattle.trace_clauses.specs.FlowClause.{may_be_drained}
+use Rattle.trace_events.specs.FlowClause.{may_be_drained}
 use Rattle.number_groups.specs.Ascending.{has}
 use Rattle.due_lists.specs.Draining.{IsDraining}
 use Rattle.due_lists.specs.declared.drains.Drains.{Drains}

@@ -7,7 +7,7 @@ use Rattle.trace_events.specs.Incoming as incoming
 use Rattle.trace_events.specs.Outgoing as outgoing
 use Rattle.trace_events.specs.Outgoing.{in_progress, noted}
 use Rattle.trace_duties.specs.Quiet.{stands_still}
-use Rattle.trace_values.specs.View.{link_view}
+use Rattle.trace_events.specs.View.{link_view}
 use Rattle.number_groups.specs.Ascending.{has}
 use Rattle.due_lists.specs.Standing.{IsGoing, has_window}
 use Rattle.due_lists.specs.declared.parts.DuePart.{DuePart}

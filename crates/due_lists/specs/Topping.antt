@@ -10,7 +10,7 @@ use Rattle.trace_events.specs.Ends.{ends_link}
 use Rattle.trace_events.specs.Incoming.{incoming_at}
 use Rattle.trace_events.specs.Link.{IsLiveLink, is_consumer, is_producer, is_sender, opened_consumer}
 use Rattle.trace_events.specs.Waiting.{has_waiting, is_undecided}
-use Rattle.trace_clauses.specs.FlowClause.{may_be_topped_up}
+use Rattle.trace_events.specs.FlowClause.{may_be_topped_up}
 
 -- a producer's live link
 pub record IsProducing (l : Link) (past : List Event) : Type 0 where

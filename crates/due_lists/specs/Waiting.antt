@@ -7,7 +7,7 @@ use Rattle.trace_events.specs.Event.{Event, Link, Incoming}
 use Rattle.trace_events.specs.Incoming.{address_of, completed_before, incoming_at, payload}
 use Rattle.trace_events.specs.Link.{IsLiveLink, is_consumer, link_at}
 use Rattle.trace_duties.specs.Diligent.{is_next_waiting, is_picked_link}
-use Rattle.trace_values.specs.View.{incoming_view, link_view}
+use Rattle.trace_events.specs.View.{incoming_view, link_view}
 use Rattle.due_lists.specs.Picks.{ArePicks}
 use Rattle.due_lists.specs.Queues.{HaveQueues}
 use Rattle.due_lists.specs.AddressesToTry.{is_to_try}

@@ -6,7 +6,7 @@ use Rattle.trace_events.specs.Event.{Event, Link, Incoming, Outgoing}
 use Rattle.trace_events.specs.Incoming.{address_of, incoming_at}
 use Rattle.trace_events.specs.Link.{IsLiveLink, is_consumer}
 use Rattle.trace_events.specs.Waiting.{is_waiting}
-use Rattle.trace_clauses.specs.TransferClause.{may_take}
+use Rattle.trace_events.specs.TransferClause.{may_take}
 use Rattle.due_lists.specs.Standing.{goes_on, grants_window, has_window}
 
 -- the delivery waits, and the live link of a consumer of its address may be sent one

@@ -9,7 +9,7 @@ ghost use Rattle.trace_events.specs.Link.{IsLiveLink, is_consumer};
 ghost use Rattle.trace_events.specs.Session.{IsLiveOn};
 ghost use Rattle.trace_events.specs.declared.session.Session.{Session};
 ghost use Rattle.trace_events.specs.Words.{is_some_and};
-ghost use Rattle.trace_values.specs.View.{Events, event_view};
+ghost use Rattle.trace_events.specs.View.{Events, event_view};
 ghost use Rattle.state_tables.specs.ConsumerLinks.{consumer_at, link_in};
 ghost use Rattle.state_answers.specs.Tables.{TellsOf};
 ghost use Rattle.due_lists.specs.Standing.{goes_on, grants_window, has_window};
@@ -23,8 +23,8 @@ use indexmap::IndexSet;
 use state_answers::LentTables;
 use state_tables::ConsumerLinks;
 use std::alloc::{AllocError, Global};
+use trace_events::{Event, Link};
 use trace_judge::Counts;
-use trace_values::Event;
 
 /// Addresses, each once.
 #[derive(Drop)]

@@ -1,6 +1,6 @@
 //! A delivery that is due to begin.
 
-use trace_values::{Incoming, Link};
+use trace_events::{Incoming, Link};
 
 /// A delivery that is due to begin on a consumer's link: one that waits, or a copy; with its payload.
 #[derive(Clone, Copy)]

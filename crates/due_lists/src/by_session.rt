@@ -4,14 +4,14 @@ ghost use Rattle.std.specs.Prelude.{◌≡◌, ℕ, Some, OnOk, false, length, n
 ghost use Rattle.trace_events.specs.Link.{opened_consumer};
 ghost use Rattle.number_groups.specs.Groups.{numbers};
 ghost use Rattle.trace_events.specs.Event as law;
-ghost use Rattle.trace_values.specs.View.{event_view};
+ghost use Rattle.trace_events.specs.View.{event_view};
 ghost use Rattle.state_tables.specs.EndedLinks.{views};
 ghost use Rattle.state_tables.specs.ConsumerLinks.{has_link};
 ghost use Rattle.due_lists.specs.BySession.{HasNone, stands};
 
 use number_groups::Groups;
 use std::alloc::{AllocError, Global};
-use trace_values::{Event, Link};
+use trace_events::{Event, Link};
 
 /// The numbers of the live links of consumers, by those of their sessions.
 #[derive(Drop)]

@@ -8,7 +8,7 @@ ghost use Rattle.trace_events.specs.History.{history};
 ghost use Rattle.trace_events.specs.Due.{has_unsent};
 ghost use Rattle.trace_events.specs.Link.{IsLiveLink};
 ghost use Rattle.trace_duties.specs.Quiet.{copies_are_sent, has_earlier_unsent};
-ghost use Rattle.trace_values.specs.View.{Events, event_view, incoming_view, link_view};
+ghost use Rattle.trace_events.specs.View.{Events, event_view, incoming_view, link_view};
 ghost use Rattle.state_tables.specs.Connections.{IsLawfulNext};
 ghost use Rattle.state_tables.specs.Addressed.{IsAddressed};
 ghost use Rattle.state_answers.specs.Tables.{TellsOf};
@@ -22,8 +22,8 @@ use pairing_cert::Note;
 use state_answers::{EventEffects, LentTables};
 use state_tables::{Copies, receivers_of};
 use std::alloc::{AllocError, Global};
+use trace_events::{Event, Incoming, Link};
 use trace_judge::{Carriage, may_take};
-use trace_values::{Event, Incoming, Link};
 
 /// The copies that are still to be sent.
 #[derive(Drop)]

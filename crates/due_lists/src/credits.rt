@@ -20,7 +20,7 @@ ghost use Rattle.state_answers.specs.Tables.{TellsOf};
 ghost use Rattle.state_answers.specs.Effects.{AreEffects};
 ghost use Rattle.due_lists.specs.Topping.{IsToppable, settles};
 ghost use Rattle.due_lists.specs.Credits.{HasCredits, AreEndedIn, AreFreedIn, AreOpenedIn, AreTouchedIn, AreWokenIn, has_waited, key_of};
-ghost use Rattle.trace_values.specs.View.{Events, event_view, link_view};
+ghost use Rattle.trace_events.specs.View.{Events, event_view, link_view};
 
 use crate::candidates::Candidates;
 use amqp_perf::Role;
@@ -28,8 +28,8 @@ use capture_form::RuleSet;
 use number_groups::{Ascending, Groups, OctetGroups};
 use state_answers::{EventEffects, LentTables, add, add_group, add_octet_group};
 use std::alloc::{AllocError, Global};
+use trace_events::{Event, Link};
 use trace_judge::{Counts, Inputs, may_be_topped_up};
-use trace_values::{Event, Link};
 
 /// Where a link is found.
 #[derive(Clone, Copy, Debug)]

@@ -13,15 +13,15 @@ ghost use Rattle.state_answers.specs.Tables.{TellsOf};
 ghost use Rattle.state_answers.specs.Effects.{AreEffects};
 ghost use Rattle.due_lists.specs.Draining.{IsDrainable, asks_drain, writes_part};
 ghost use Rattle.due_lists.specs.Drains.{HasDrains, stands, waits};
-ghost use Rattle.trace_values.specs.View.{Events, event_view, link_view};
+ghost use Rattle.trace_events.specs.View.{Events, event_view, link_view};
 
 use amqp_perf::Performative;
 use capture_form::RuleSet;
 use number_groups::{Ascending, OctetGroups};
 use state_answers::{EventEffects, LentTables, add_octet_group};
 use std::alloc::{AllocError, Global};
+use trace_events::{Event, Link};
 use trace_judge::may_be_drained;
-use trace_values::{Event, Link};
 
 /// The links of consumers that drain.
 #[derive(Drop)]

@@ -17,7 +17,7 @@ ghost use Rattle.state_answers.specs.Tables.{TellsOf};
 ghost use Rattle.state_answers.specs.Effects.{AreEffects};
 ghost use Rattle.due_lists.specs.Standing.{IsStill, goes_on, grants_window};
 ghost use Rattle.due_lists.specs.Parts.{HasParts, IsDuePart, stands, waits};
-ghost use Rattle.trace_values.specs.View.{Events, event_view};
+ghost use Rattle.trace_events.specs.View.{Events, event_view};
 
 use flow_counts::WindowEvent;
 use number_groups::{Ascending, Groups};
@@ -25,8 +25,8 @@ use pairing_cert::Note;
 use state_answers::{EventEffects, LentTables, add_group};
 use state_outgoing::rest_of;
 use std::alloc::{AllocError, Global};
+use trace_events::{Event, Link};
 use trace_judge::{Carriage, Counts};
-use trace_values::{Event, Link};
 
 /// A part that is due: on this link, with the note of the delivery in progress there, of what is left of its payload.
 #[derive(Clone, Copy)]

@@ -11,9 +11,9 @@ ghost use Rattle.trace_events.specs.Link.{link_at, own_link};
 ghost use Rattle.trace_events.specs.Outgoing as outgoing;
 ghost use Rattle.trace_events.specs.History.{history};
 ghost use Rattle.trace_duties.specs.Consumers.{attached_as, begun_by};
-ghost use Rattle.trace_clauses.specs.TransferClause.{may_take};
+ghost use Rattle.trace_events.specs.TransferClause.{may_take};
 ghost use Rattle.trace_duties.specs.Pick.{pick};
-ghost use Rattle.trace_values.specs.View.{Events, event_view, link_view};
+ghost use Rattle.trace_events.specs.View.{Events, event_view, link_view};
 ghost use Rattle.state_tables.specs.Connections.{IsLawfulNext};
 ghost use Rattle.state_tables.specs.EndedLinks.{views};
 ghost use Rattle.state_tables.specs.LinkTables.{AreLinked};
@@ -33,8 +33,8 @@ use state_outgoing::SentDelivery;
 use state_tables::Links;
 use std::alloc::{AllocError, Global};
 use std::str::from_utf8;
+use trace_events::{Event, Link, is_decisive};
 use trace_judge::may_take;
-use trace_values::{Event, Link, is_decisive};
 
 /// The links of consumers, as picks see them, moved forward by one event after the other.
 #[derive(Drop)]

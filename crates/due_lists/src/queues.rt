@@ -11,7 +11,7 @@ ghost use Rattle.trace_events.specs.Queue.{waiting_queue};
 ghost use Rattle.trace_events.specs.Address as addresses;
 ghost use Rattle.trace_events.specs.History.{history};
 ghost use Rattle.trace_duties.specs.Diligent.{is_next_waiting};
-ghost use Rattle.trace_values.specs.View.{event_view, incoming_view};
+ghost use Rattle.trace_events.specs.View.{event_view, incoming_view};
 ghost use Rattle.state_tables.specs.Addressed.{IsAddressed};
 ghost use Rattle.state_tables.specs.Connections.{IsLawfulNext};
 ghost use Rattle.state_answers.specs.Tables.{TellsOf};
@@ -23,7 +23,7 @@ use state_answers::LentTables;
 use state_incoming::Deliveries;
 use std::alloc::{AllocError, Global};
 use std::collections::VecDeque;
-use trace_values::{Event, Incoming, has_multicast};
+use trace_events::{Event, Incoming, has_multicast};
 
 /// The numbers of the deliveries that wait at each address, the first completed first. One that waits no more stays until it
 /// comes to the front and is asked for; an address goes with its last number.

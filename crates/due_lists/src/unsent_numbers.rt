@@ -11,7 +11,7 @@ ghost use Rattle.trace_events.specs.Due as due;
 ghost use Rattle.trace_events.specs.History.{history};
 ghost use Rattle.trace_events.specs.Incoming.{completes, incoming_at};
 ghost use Rattle.trace_events.specs.Link.{IsLiveLink};
-ghost use Rattle.trace_values.specs.View.{event_view, incoming_view};
+ghost use Rattle.trace_events.specs.View.{event_view, incoming_view};
 ghost use Rattle.state_tables.specs.EndedLinks.{views};
 ghost use Rattle.state_tables.specs.ConsumerLinks.{has_link, link_in};
 ghost use Rattle.state_tables.specs.Copies.{AreCopies, names_at};
@@ -24,7 +24,7 @@ use crate::granted_session;
 use number_groups::Groups;
 use state_tables::{ConsumerLinks, Copies, Receiver, named_on_link};
 use std::alloc::{AllocError, Global};
-use trace_values::{Event, Incoming, Link};
+use trace_events::{Event, Incoming, Link};
 
 /// The numbers of the copies that may be unsent, and of the links on which they are.
 #[derive(Drop)]

@@ -6,7 +6,7 @@ ghost use Rattle.capture_form.specs.declared.records.Record.{Record};
 ghost use Rattle.trace_events.specs.History.{history};
 ghost use Rattle.trace_events.specs.Incoming.{address_of};
 ghost use Rattle.trace_duties.specs.Quiet.{none_waits_in_vain};
-ghost use Rattle.trace_values.specs.View.{Events, event_view, incoming_view};
+ghost use Rattle.trace_events.specs.View.{Events, event_view, incoming_view};
 ghost use Rattle.state_tables.specs.Addressed.{IsAddressed};
 ghost use Rattle.state_tables.specs.Connections.{IsLawfulNext};
 ghost use Rattle.state_incoming.specs.EntryAnswers.{Knows};
@@ -25,7 +25,7 @@ use crate::queues::Queues;
 use capture_form::RuleSet;
 use state_answers::{EventEffects, LentTables};
 use std::alloc::{AllocError, Global};
-use trace_values::{Event, Incoming, Link};
+use trace_events::{Event, Incoming, Link};
 
 /// The anycast deliveries that wait.
 #[derive(Drop)]

@@ -10,15 +10,14 @@ ghost use Rattle.state_tables.specs.Connections.{IsLawfulNext};
 ghost use Rattle.state_answers.specs.Tables.{TellsOf};
 ghost use Rattle.due_lists.specs.Lacking.{HasLowered, IsLacking};
 ghost use Rattle.due_lists.specs.Windows.{HasLacking};
-ghost use Rattle.trace_values.specs.View.{Events, event_view};
+ghost use Rattle.trace_events.specs.View.{Events, event_view};
 
 use crate::candidates::Candidates;
 use flow_counts::RENEWAL_MARK;
 use state_answers::LentTables;
 use std::alloc::{AllocError, Global};
-use trace_events::Session;
+use trace_events::{Event, Session};
 use trace_judge::Inputs;
-use trace_values::Event;
 
 /// The sessions that may lack window.
 #[derive(Drop)]

@@ -5,10 +5,10 @@ use Rattle.trace_events.specs.Due.{is_unsent}
 use Rattle.trace_events.specs.Incoming.{incoming_at, incoming_deliveries, is_complete}
 use Rattle.trace_events.specs.Outgoing.{noted}
 use Rattle.trace_events.specs.Waiting.{is_gone}
-use Rattle.trace_clauses.specs.TransferClause.{to_carry}
-use Rattle.trace_clauses.proofs.OneConsumer.{incoming_at-is, passes-some}
-use Rattle.trace_clauses.proofs.Parts.{holds_some}
-use Rattle.trace_values.specs.View.{incoming_view, link_view}
+use Rattle.trace_events.specs.TransferClause.{to_carry}
+use Rattle.trace_events.proofs.OneConsumer.{incoming_at-is, passes-some}
+use Rattle.trace_events.proofs.Parts.{holds_some}
+use Rattle.trace_events.specs.View.{incoming_view, link_view}
 use Rattle.state_tables.specs.LetGo.{is_let_go}
 use Rattle.state_incoming.proofs.GroupAnswers.{judged-of}
 use Rattle.due_lists.proofs.Members.{found-contained}

@@ -3,9 +3,9 @@ use Rattle.trace_events.specs.Event.{Link}
 use Rattle.trace_events.specs.Link.{IsLiveLink, is_producer}
 use Rattle.trace_events.specs.Session.{IsLiveOn}
 use Rattle.trace_events.proofs.Standing.{live-on}
-use Rattle.trace_clauses.specs.FlowClause.{may_be_topped_up}
-use Rattle.trace_clauses.proofs.LiveLinks.{live-link}
-use Rattle.trace_values.specs.View.{link_view}
+use Rattle.trace_events.specs.FlowClause.{may_be_topped_up}
+use Rattle.trace_events.proofs.LiveLinks.{live-link}
+use Rattle.trace_events.specs.View.{link_view}
 use Rattle.due_lists.proofs.CreditsPlaced.{placed-link}
 use Rattle.due_lists.proofs.credits.credit_due.Goals as goal
 use Rattle.due_lists.proofs.credits.credit_due.Goals.{else-link-number-via-then-link-number+then-is_producer+else-may_be_topped_up, else-link-number-via-then-link-number+else-is_producer, else-link-number-via-else-link-number}

@@ -1,7 +1,7 @@
 use Rattle.std.proofs.Common.{◌∙◌, ◌&&◌, false}
 use Rattle.trace_events.specs.Link.{is_consumer}
 use Rattle.trace_events.specs.Waiting.{has_waiting}
-use Rattle.trace_values.specs.View.{link_view}
+use Rattle.trace_events.specs.View.{link_view}
 use Rattle.state_tables.proofs.GroupLists.{any-map, each-in}
 use Rattle.due_lists.proofs.credits.has_waited.Goals as goal
 

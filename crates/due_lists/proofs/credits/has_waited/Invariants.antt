@@ -4,7 +4,7 @@ use Rattle.capture_form.specs.Rules.{RuleSet}
 use Rattle.trace_events.specs.Event.{Event}
 use Rattle.trace_events.specs.Link.{is_consumer}
 use Rattle.trace_events.specs.Waiting.{has_waiting}
-use Rattle.trace_values.specs.View.{link_view}
+use Rattle.trace_events.specs.View.{link_view}
 use Rattle.state_answers.specs.Tables.{TellsOf}
 use Rattle.due_lists.proofs.credits.has_waited.Given as goal
 

@@ -1,7 +1,7 @@
 use Rattle.std.proofs.Common.{◌≡◌, sym, ap, ◌∙◌, true, Option, Some, None}
 use Rattle.trace_events.specs.Event.{Incoming}
 use Rattle.trace_events.specs.Incoming.{incoming_at}
-use Rattle.trace_values.specs.View.{incoming_view}
+use Rattle.trace_events.specs.View.{incoming_view}
 use Rattle.state_incoming.specs.EntryAnswers.{has_entry}
 use Rattle.state_incoming.proofs.KnownEntries.{knows-at}
 use Rattle.due_lists.proofs.CreditsTouched.{knows-number}

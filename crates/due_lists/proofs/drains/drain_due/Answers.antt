@@ -1,6 +1,6 @@
 use Rattle.std.proofs.Common.{◌≡◌, sym, ◌∙◌, true, false, Option, Some, None}
 use Rattle.trace_events.specs.Event.{Link}
-use Rattle.trace_values.specs.View.{link_view}
+use Rattle.trace_events.specs.View.{link_view}
 use Rattle.state_incoming.proofs.GroupAnswers.{judged-of}
 use Rattle.state_tables.specs.ConsumerLinks.{consumer_at}
 use Rattle.due_lists.proofs.DrainsFollowed.{drainable-found, drainable-same}

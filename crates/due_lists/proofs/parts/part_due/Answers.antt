@@ -5,8 +5,8 @@ use Rattle.trace_events.specs.Incoming as incoming
 use Rattle.trace_events.specs.Outgoing as outgoing
 use Rattle.trace_events.specs.Outgoing.{in_progress}
 use Rattle.trace_events.specs.Window.{session_window}
-use Rattle.trace_clauses.specs.TransferClause.{to_carry}
-use Rattle.trace_values.specs.View.{link_view, incoming_view, outgoing_view}
+use Rattle.trace_events.specs.TransferClause.{to_carry}
+use Rattle.trace_events.specs.View.{link_view, incoming_view, outgoing_view}
 use Rattle.state_incoming.proofs.GroupAnswers.{judged-of}
 use Rattle.state_tables.specs.ConsumerLinks.{consumer_at}
 use Rattle.due_lists.proofs.PartsDue.{found-consumer, carries, carried-noted, carrier-there, sent-so-far, still-link, still-going, still-window}

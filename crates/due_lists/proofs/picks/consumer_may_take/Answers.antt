@@ -2,8 +2,8 @@ use Rattle.std.proofs.Common.{◌≡◌, ◌∙◌, ap, sym, Some}
 use Rattle.trace_events.specs.Words.{is_some_and}
 use Rattle.trace_events.specs.History.{history}
 use Rattle.trace_events.proofs.Judged.{history-judged}
-use Rattle.trace_clauses.specs.TransferClause.{may_take}
-use Rattle.trace_values.specs.View.{link_view}
+use Rattle.trace_events.specs.TransferClause.{may_take}
+use Rattle.trace_events.specs.View.{link_view}
 use Rattle.state_tables.specs.ConsumerLinks.{consumer_at}
 use Rattle.due_lists.proofs.Eligible.{taken-lives}
 use Rattle.due_lists.proofs.picks.consumer_may_take.Goals as goal

@@ -3,7 +3,7 @@ use Rattle.trace_events.specs.History.{history}
 use Rattle.trace_events.specs.Queue.{waiting_queue}
 use Rattle.trace_events.proofs.Judged.{history-judged}
 use Rattle.trace_duties.specs.Pick.{pick}
-use Rattle.trace_values.specs.View.{incoming_view, link_view}
+use Rattle.trace_events.specs.View.{incoming_view, link_view}
 use Rattle.due_lists.proofs.Chosen.{next-waits, pick-some, picked-link, picked-lives, queue-some, waiting-known}
 use Rattle.due_lists.proofs.waiting.due_at.Goals as goal
 

@@ -1,6 +1,6 @@
 use Rattle.std.proofs.Common.{sym, ◌∙◌}
-use Rattle.trace_clauses.proofs.Parts.{holds_some}
-use Rattle.trace_values.specs.View.{incoming_view}
+use Rattle.trace_events.proofs.Parts.{holds_some}
+use Rattle.trace_events.specs.View.{incoming_view}
 use Rattle.state_incoming.specs.EntryAnswers.{Knows}
 use Rattle.due_lists.specs.declared.begin.DueBegin.{DueBegin}
 use Rattle.due_lists.proofs.EarliestDue.{first-stays, other-comes}

@@ -5,7 +5,7 @@ use Rattle.trace_events.specs.Session.{IsLiveOn}
 use Rattle.trace_events.specs.Window.{given_window}
 use Rattle.trace_events.specs.declared.session.Session.{Session}
 use Rattle.trace_events.proofs.Judged.{history-judged}
-use Rattle.trace_values.specs.View.{event_view}
+use Rattle.trace_events.specs.View.{event_view}
 use Rattle.due_lists.proofs.LackingWindows.{lacking-before}
 use Rattle.due_lists.proofs.windows.lowered.Goals as goal
 

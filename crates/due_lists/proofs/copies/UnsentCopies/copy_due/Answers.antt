@@ -1,8 +1,8 @@
 use Rattle.std.proofs.Common.{◌≡◌, refl, sym, ap, ◌∙◌, Option, Some, None, true, false}
 use Rattle.trace_events.specs.Event.{Link}
 use Rattle.trace_events.specs.Due.{has_unsent}
-use Rattle.trace_clauses.specs.TransferClause.{may_take}
-use Rattle.trace_values.specs.View.{incoming_view, link_view}
+use Rattle.trace_events.specs.TransferClause.{may_take}
+use Rattle.trace_events.specs.View.{incoming_view, link_view}
 use Rattle.state_incoming.proofs.GroupAnswers.{judged-of}
 use Rattle.state_tables.specs.ConsumerLinks.{consumer_at}
 use Rattle.due_lists.proofs.LiveOnes.{link-found}

@@ -1,6 +1,6 @@
 use Rattle.std.proofs.Common.{◌≡◌, refl, sym, ap, ◌∙◌, Option, Some, None}
 use Rattle.trace_events.specs.Event.{Incoming}
-use Rattle.trace_values.specs.View.{incoming_view, link_view}
+use Rattle.trace_events.specs.View.{incoming_view, link_view}
 use Rattle.state_incoming.proofs.GroupAnswers.{judged-of}
 use Rattle.due_lists.specs.UnsentNumbers.{copy_on}
 use Rattle.due_lists.proofs.CopiesDue.{first-earliest, have-of, have-passed, one-unlisted}

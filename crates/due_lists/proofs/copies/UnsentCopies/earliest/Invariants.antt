@@ -1,7 +1,7 @@
 use Rattle.std.proofs.Common.{◌≡◌, List}
 use Rattle.trace_events.specs.Event.{Event}
 use Rattle.trace_events.specs.Link.{IsLiveLink}
-use Rattle.trace_values.specs.View.{link_view}
+use Rattle.trace_events.specs.View.{link_view}
 use Rattle.state_answers.specs.Tables.{TellsOf}
 use Rattle.due_lists.specs.ByLink.{count_of}
 use Rattle.due_lists.specs.Copies.{HasUnsent}

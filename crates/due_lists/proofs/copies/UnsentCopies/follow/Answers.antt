@@ -4,9 +4,9 @@ use Rattle.trace_events.specs.Event.{Event}
 use Rattle.trace_events.specs.History.{history}
 use Rattle.trace_events.specs.Incoming.{completes}
 use Rattle.trace_events.proofs.Judged.{history-judged}
-use Rattle.trace_clauses.proofs.Lawful.{history-push}
-use Rattle.trace_values.specs.View.{event_view}
-use Rattle.trace_values.specs.declared.event.Link.{Link}
+use Rattle.trace_events.proofs.Lawful.{history-push}
+use Rattle.trace_events.specs.View.{event_view}
+use Rattle.trace_events.specs.declared.event.Link.{Link}
 use Rattle.state_tables.specs.ConsumerLinks.{consumer_at}
 use Rattle.state_tables.specs.Copies.{AreCopies, AreReceivers}
 use Rattle.state_tables.specs.declared.copies.Receiver.{Receiver}

@@ -1,5 +1,5 @@
 use Rattle.std.proofs.Common.{◌≡◌, refl, sym, ap, ◌∙◌, Option, None, false, true, is_some}
-use Rattle.trace_values.specs.declared.event.Link.{Link}
+use Rattle.trace_events.specs.declared.event.Link.{Link}
 use Rattle.state_incoming.proofs.GroupAnswers.{judged-of}
 use Rattle.due_lists.specs.Credits.{place_in}
 use Rattle.due_lists.proofs.CreditsFollowed.{have-dropped, none-lacking}

@@ -1,7 +1,7 @@
 use Rattle.std.proofs.Common.{rules, refl, sym, ap, subst, ◌∙◌, ◌≡◌, Some, Bool, true, false, option_map, eq-eqb, if◌then◌else◌, ◌||◌, ◌&&◌}
 use Rattle.std.proofs.lemmas.Slice.Eq.{bytes_eq-Decides}
 use Rattle.trace_events.specs.Event.{Link}
-use Rattle.trace_values.specs.View.{link_view}
+use Rattle.trace_events.specs.View.{link_view}
 use Rattle.due_lists.specs.Credits.{IsIn, place_in}
 use Rattle.due_lists.proofs.credits.Credits.open.Goals as goal
 

@@ -1,5 +1,5 @@
 use Rattle.std.proofs.Common.{◌≡◌, refl, ◌∙◌, ℕ, true}
-use Rattle.trace_values.specs.View.{event_view}
+use Rattle.trace_events.specs.View.{event_view}
 use Rattle.number_groups.specs.Ascending.{has}
 use Rattle.due_lists.proofs.CreditsTouched.{put-more, put-here, named-producer}
 use Rattle.due_lists.proofs.credits.Credits.touch.Goals as goal

@@ -1,6 +1,6 @@
 use Rattle.std.proofs.Common.{◌≡◌, refl, sym, ap, ◌∙◌, Option, None, false, true, is_some}
 use Rattle.number_groups.specs.OctetGroups.{is_member}
-use Rattle.trace_values.specs.declared.event.Link.{Link}
+use Rattle.trace_events.specs.declared.event.Link.{Link}
 use Rattle.state_incoming.proofs.GroupAnswers.{judged-of}
 use Rattle.due_lists.specs.Drains.{stands, waits}
 use Rattle.number_groups.specs.Ascending.{has}

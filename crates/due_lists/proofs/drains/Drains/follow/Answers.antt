@@ -1,8 +1,8 @@
 use Rattle.std.proofs.Common.{sym, subst, List}
 use Rattle.trace_events.specs.History.{history}
 use Rattle.trace_events.proofs.Judged.{history-judged}
-use Rattle.trace_values.specs.View.{event_view}
-use Rattle.trace_values.specs.declared.event.Link.{Link}
+use Rattle.trace_events.specs.View.{event_view}
+use Rattle.trace_events.specs.declared.event.Link.{Link}
 use Rattle.state_tables.specs.EndedLinks.{AreEnded, views}
 use Rattle.due_lists.specs.Drains.{stands, waits}
 use Rattle.due_lists.proofs.DrainsFollowed.{have-drains}

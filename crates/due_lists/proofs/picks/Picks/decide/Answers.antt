@@ -1,6 +1,6 @@
 use Rattle.std.proofs.Common.{◌≡◌, ◌∷◌, ◌∙◌, ℕ, List, [], arith, subst, sym}
 use Rattle.std.proofs.lemmas.List.{append-nil}
-use Rattle.trace_values.specs.View.{event_view}
+use Rattle.trace_events.specs.View.{event_view}
 use Rattle.state_outgoing.specs.SentTables.{sent_in}
 use Rattle.due_lists.specs.AddressCounts.{CountsMore, decided_on}
 use Rattle.due_lists.specs.Picks.{decided_among, decided_link}

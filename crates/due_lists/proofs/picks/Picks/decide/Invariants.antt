@@ -1,5 +1,5 @@
 use Rattle.std.proofs.Common.{◌≡◌, ◌++◌, ℕ, List, length}
-use Rattle.trace_values.specs.View.{Events, event_view}
+use Rattle.trace_events.specs.View.{Events, event_view}
 use Rattle.state_outgoing.specs.SentTables.{sent_in}
 use Rattle.state_tables.specs.LinkTables.{AreLinked}
 use Rattle.due_lists.specs.AddressCounts.{CountsMore}

@@ -5,8 +5,8 @@ use Rattle.address_table.specs.Links.{IsCount}
 use Rattle.trace_events.specs.Link.{own_link}
 use Rattle.trace_events.specs.History.{history}
 use Rattle.trace_events.proofs.Judged.{AreJudged, history-judged}
-use Rattle.trace_values.specs.View.{event_view}
-use Rattle.trace_values.specs.declared.event.Link.{Link}
+use Rattle.trace_events.specs.View.{event_view}
+use Rattle.trace_events.specs.declared.event.Link.{Link}
 use Rattle.trace_duties.specs.Consumers.{attached_as, begun_by, address_events}
 use Rattle.state_outgoing.specs.SentTables.{sent_in}
 use Rattle.state_tables.specs.EndedLinks.{AreEnded, views}

@@ -6,7 +6,7 @@ use Rattle.trace_events.specs.Event.{Link}
 use Rattle.trace_events.specs.History.{history}
 use Rattle.trace_events.proofs.Judged.{history-judged}
 use Rattle.trace_duties.specs.Consumers.{address_events}
-use Rattle.trace_values.specs.View.{link_view}
+use Rattle.trace_events.specs.View.{link_view}
 use Rattle.due_lists.proofs.Texts.{no-text}
 use Rattle.due_lists.proofs.Eligible.{takes_at, pick-none, pick-of, picked-same, picked-link, fused}
 use Rattle.due_lists.proofs.picks.Picks.pick.Goals as goal

@@ -3,7 +3,7 @@ use Rattle.indexmap.specs.IndexMap.{get_by}
 use Rattle.number_groups.proofs.Octets.{changed, under}
 use Rattle.trace_events.specs.History.{history}
 use Rattle.trace_events.proofs.Judged.{history-judged}
-use Rattle.trace_values.specs.View.{incoming_view}
+use Rattle.trace_events.specs.View.{incoming_view}
 use Rattle.due_lists.specs.Queues.{queued, IsQueue}
 use Rattle.due_lists.proofs.QueueLists.{none-waits}
 use Rattle.due_lists.proofs.QueueMoves.{chosen, emptied-queues, here, moved-queues, shorter-at}

@@ -4,7 +4,7 @@ use Rattle.trace_events.specs.Incoming.{completed_by}
 use Rattle.trace_events.specs.Address.{has_multicast}
 use Rattle.trace_events.specs.History.{history}
 use Rattle.trace_events.proofs.Judged.{AreJudged, history-judged}
-use Rattle.trace_values.specs.View.{event_view, incoming_view}
+use Rattle.trace_events.specs.View.{event_view, incoming_view}
 use Rattle.due_lists.specs.Queues.{queue_in}
 use Rattle.due_lists.proofs.QueueLists.{queue-step}
 use Rattle.due_lists.proofs.QueueMoves.{pushed-is, unpushed-is}

@@ -1,5 +1,5 @@
 use Rattle.std.proofs.Common.{◌≡◌, sym, subst, inl, inr, ℕ, Some}
-use Rattle.trace_values.specs.View.{event_view, incoming_view}
+use Rattle.trace_events.specs.View.{event_view, incoming_view}
 use Rattle.state_tables.specs.ConsumerLinks.{link_in}
 use Rattle.due_lists.proofs.Listed.{in-later, kept_but-later, receives-more, with-later}
 use Rattle.due_lists.proofs.unsent_numbers.UnsentNumbers.come.Goals as goal

@@ -6,7 +6,7 @@ use Rattle.trace_events.specs.Due.{is_unsent}
 use Rattle.trace_events.specs.History.{history}
 use Rattle.trace_events.specs.Incoming.{incoming_at}
 use Rattle.trace_events.specs.Link.{IsLiveLink}
-use Rattle.trace_values.specs.View.{event_view, incoming_view}
+use Rattle.trace_events.specs.View.{event_view, incoming_view}
 use Rattle.state_tables.specs.ConsumerLinks.{link_in}
 use Rattle.state_tables.specs.Copies.{AreCopies}
 use Rattle.due_lists.specs.UnsentNumbers.{AreWith, IsIn, IsKeptBut, receives}

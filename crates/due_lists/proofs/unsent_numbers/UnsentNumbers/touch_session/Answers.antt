@@ -1,6 +1,6 @@
 use Rattle.std.proofs.Common.{◌≡◌, sym, ap, subst, ◌∙◌, ◌<◌, inl, inr, ℕ, Some, length, nat_eq, slice_get}
 use Rattle.number_groups.specs.Groups.{numbers}
-use Rattle.trace_clauses.proofs.Parts.{holds_some}
+use Rattle.trace_events.proofs.Parts.{holds_some}
 use Rattle.due_lists.specs.UnsentNumbers.{Waits, copy_on}
 use Rattle.due_lists.proofs.Listed.{among-more, kept-later}
 use Rattle.due_lists.proofs.unsent_numbers.UnsentNumbers.touch_session.Goals as goal

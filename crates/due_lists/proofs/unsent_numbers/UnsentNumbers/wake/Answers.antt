@@ -1,7 +1,7 @@
 use Rattle.std.proofs.Common.{◌≡◌, sym, ap, subst, ◌∙◌, ℕ, Option, Some, None, true, option_map, if◌then◌else◌}
 use Rattle.std.proofs.lemmas.Result.{on_ok_weaker}
 use Rattle.trace_events.specs.declared.session.Session.{Session}
-use Rattle.trace_values.specs.View.{event_view}
+use Rattle.trace_events.specs.View.{event_view}
 use Rattle.due_lists.specs.UnsentNumbers.{stands}
 use Rattle.due_lists.proofs.unsent_numbers.UnsentNumbers.wake.Goals as goal
 

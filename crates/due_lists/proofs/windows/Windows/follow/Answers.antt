@@ -1,7 +1,7 @@
 use Rattle.std.proofs.Common.{refl}
 use Rattle.trace_events.specs.History.{history}
 use Rattle.trace_events.proofs.Judged.{history-judged}
-use Rattle.trace_values.specs.View.{event_view}
+use Rattle.trace_events.specs.View.{event_view}
 use Rattle.due_lists.specs.Candidates.{value_of}
 use Rattle.due_lists.proofs.WindowsFollowed.{on_ok, have-lowered}
 use Rattle.due_lists.proofs.windows.Windows.follow.Goals as goal
