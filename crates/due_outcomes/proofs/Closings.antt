@@ -14,9 +14,9 @@ use Rattle.trace_events.specs.Link.{is_live, is_producer, is_sender}
 use Rattle.trace_events.specs.Settling.{is_closed}
 use Rattle.trace_events.specs.Work.{closes_incoming}
 use Rattle.trace_events.proofs.Judged.{AreJudged}
-use Rattle.trace_clauses.proofs.LinkEnds.{lives-live}
-use Rattle.trace_clauses.proofs.Parts.{IsKept}
-use Rattle.trace_clauses.proofs.WaitingQueue.{contains_none, contains_cases}
+use Rattle.trace_events.proofs.LinkEnds.{lives-live}
+use Rattle.trace_events.proofs.Parts.{IsKept}
+use Rattle.trace_events.proofs.WaitingQueue.{contains_none, contains_cases}
 use Rattle.state_tables.specs.EndedLinks.{AreEnded}
 use Rattle.due_outcomes.specs.Closings.{may_close, settles_ids, settles_sent}
 use Rattle.due_outcomes.proofs.ProducerLinks.{judged-producer}

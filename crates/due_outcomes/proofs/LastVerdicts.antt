@@ -20,18 +20,18 @@ use Rattle.trace_events.specs.Work.{comes_due}
 use Rattle.trace_events.proofs.Judged.{AreJudged}
 use Rattle.trace_events.proofs.LinkNumbers.{links-found}
 use Rattle.trace_events.proofs.Links.{passing}
-use Rattle.trace_clauses.specs.Clauses.{first_broken}
-use Rattle.trace_clauses.specs.Outcome.{is_sent_settled}
-use Rattle.trace_clauses.proofs.BegunDeliveries.{found-begun, kept-later}
-use Rattle.trace_clauses.proofs.ClausesMet.{lawful-past}
-use Rattle.trace_clauses.proofs.LinkEnds.{lives-live}
-use Rattle.trace_clauses.proofs.OutgoingProgress.{IsPartOf, judged-carrying, judged-outgoing_part}
-use Rattle.trace_clauses.proofs.Parts.{IsKept}
-use Rattle.trace_clauses.proofs.WaitingQueue.{find_has}
-use Rattle.trace_clauses.specs.CopyVerdict.{awaits_now, awaits_verdict, begun_verdict_by, copy_on, deciding_now, ends_settled, sent_verdict, verdict_by, verdict_on}
-use Rattle.trace_clauses.specs.BestVerdict.{has_all_verdicts}
-use Rattle.trace_clauses.proofs.AwaitedSteps.{awaits_now-live, awaits_verdict_moves}
-use Rattle.trace_clauses.proofs.VerdictSteps.{found-passes}
+use Rattle.trace_events.specs.Clauses.{first_broken}
+use Rattle.trace_events.specs.Outcome.{is_sent_settled}
+use Rattle.trace_events.proofs.BegunDeliveries.{found-begun, kept-later}
+use Rattle.trace_events.proofs.ClausesMet.{lawful-past}
+use Rattle.trace_events.proofs.LinkEnds.{lives-live}
+use Rattle.trace_events.proofs.OutgoingProgress.{IsPartOf, judged-carrying, judged-outgoing_part}
+use Rattle.trace_events.proofs.Parts.{IsKept}
+use Rattle.trace_events.proofs.WaitingQueue.{find_has}
+use Rattle.trace_events.specs.CopyVerdict.{awaits_now, awaits_verdict, begun_verdict_by, copy_on, deciding_now, ends_settled, sent_verdict, verdict_by, verdict_on}
+use Rattle.trace_events.specs.BestVerdict.{has_all_verdicts}
+use Rattle.trace_events.proofs.AwaitedSteps.{awaits_now-live, awaits_verdict_moves}
+use Rattle.trace_events.proofs.VerdictSteps.{found-passes}
 use Rattle.due_outcomes.proofs.LostConsumers.{cons-none, one-of}
 use Rattle.state_outgoing.proofs.SentKept.{contained-at}
 use Rattle.due_outcomes.proofs.UnsettledSteps.{and-both}

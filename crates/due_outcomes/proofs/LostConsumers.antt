@@ -9,7 +9,7 @@ use Rattle.trace_events.specs.Ends.{ends_link}
 use Rattle.trace_events.specs.Link.{IsLiveLink, is_consumer, is_live, own_link, links, link_at}
 use Rattle.trace_events.proofs.Judged.{AreJudged}
 use Rattle.trace_events.proofs.LinkNumbers.{links-found}
-use Rattle.trace_clauses.proofs.LinkEnds.{is_live-next, lives-live}
+use Rattle.trace_events.proofs.LinkEnds.{is_live-next, lives-live}
 use Rattle.due_outcomes.proofs.UnsettledSteps.{and-both}
 
 or-none : (a b : Bool) → a || b ≡ false → (a ≡ false) × (b ≡ false)

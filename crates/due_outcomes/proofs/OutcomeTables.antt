@@ -8,11 +8,11 @@ use Rattle.trace_events.specs.Link.{is_live}
 use Rattle.trace_events.specs.Incoming.{incoming_at, incoming_deliveries, is_complete, is_settled, is_told}
 use Rattle.trace_events.specs.Waiting.{is_gone}
 use Rattle.trace_events.proofs.Judged.{AreJudged}
-use Rattle.trace_clauses.specs.Clauses.{first_broken}
-use Rattle.trace_clauses.specs.Outcome.{is_to_tell, may_be_told, reasons, row}
-use Rattle.trace_clauses.proofs.IncomingProgress.{judged-kept}
-use Rattle.trace_clauses.proofs.Parts.{IsKept, each_delivery}
-use Rattle.trace_clauses.proofs.WaitingQueue.{all_contained}
+use Rattle.trace_events.specs.Clauses.{first_broken}
+use Rattle.trace_events.specs.Outcome.{is_to_tell, may_be_told, reasons, row}
+use Rattle.trace_events.proofs.IncomingProgress.{judged-kept}
+use Rattle.trace_events.proofs.Parts.{IsKept, each_delivery}
+use Rattle.trace_events.proofs.WaitingQueue.{all_contained}
 use Rattle.state_incoming.specs.EntryAnswers.{Knows, has_entry}
 use Rattle.state_incoming.specs.Held.{Held}
 use Rattle.state_incoming.specs.HeldTables.{held_in}

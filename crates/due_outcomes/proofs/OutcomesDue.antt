@@ -8,8 +8,8 @@ use Rattle.trace_events.specs.Outgoing.{noted, outgoing_deliveries}
 use Rattle.trace_events.specs.Settling.{is_closed}
 use Rattle.trace_events.specs.Waiting.{is_of_multicast}
 use Rattle.trace_events.proofs.Judged.{AreJudged}
-use Rattle.trace_clauses.specs.Clauses.{first_broken}
-use Rattle.trace_clauses.specs.Outcome.{is_to_tell}
+use Rattle.trace_events.specs.Clauses.{first_broken}
+use Rattle.trace_events.specs.Outcome.{is_to_tell}
 use Rattle.trace_duties.specs.Quiet.{none_is_untold}
 use Rattle.trace_duties.proofs.QuietLists.{all-each}
 use Rattle.state_incoming.specs.EntryAnswers.{is_shut}

@@ -11,9 +11,9 @@ use Rattle.trace_events.proofs.Along.{standing}
 use Rattle.trace_events.proofs.Judged.{AreJudged}
 use Rattle.trace_events.proofs.Links.{passing}
 use Rattle.trace_events.proofs.Opens.{opened-link}
-use Rattle.trace_clauses.proofs.Incomings.{judged-sound}
-use Rattle.trace_clauses.proofs.Parts.{judged_is_part}
-use Rattle.trace_clauses.proofs.WithinCredit.{comes_from, comes_in}
+use Rattle.trace_events.proofs.Incomings.{judged-sound}
+use Rattle.trace_events.proofs.Parts.{judged_is_part}
+use Rattle.trace_events.proofs.WithinCredit.{comes_from, comes_in}
 
 same_some : {A : Type 0} (a b : A) → Some a ≡ Some b → a ≡ b
 same_some a b is = cc

@@ -10,8 +10,8 @@ use Rattle.trace_events.specs.Settling.{is_closed, is_to_settle}
 use Rattle.trace_events.specs.Work.{carries_closed, stands_unsettled}
 use Rattle.trace_events.proofs.Judged.{AreJudged}
 use Rattle.trace_events.proofs.SettlingSteps.{is_to_settle-parts}
-use Rattle.trace_clauses.specs.Clauses.{first_broken}
-use Rattle.trace_clauses.proofs.WaitingQueue.{find_has}
+use Rattle.trace_events.specs.Clauses.{first_broken}
+use Rattle.trace_events.proofs.WaitingQueue.{find_has}
 use Rattle.trace_duties.specs.Quiet.{none_is_unsettled}
 use Rattle.trace_duties.proofs.QuietLists.{all-each}
 use Rattle.state_incoming.specs.EntryAnswers.{is_shut}

@@ -16,10 +16,10 @@ use Rattle.trace_events.proofs.Judged.{AreJudged}
 use Rattle.trace_events.proofs.Links.{passing}
 use Rattle.trace_events.proofs.OutgoingLinks.{decision-begun}
 use Rattle.trace_events.proofs.SettlingSteps.{is_closed-step, is_decided-step, stands_unsettled-step}
-use Rattle.trace_clauses.specs.Clauses.{first_broken}
-use Rattle.trace_clauses.proofs.BegunDeliveries.{IsBegun, begun-noted, begun-noted_later, judged-begun}
-use Rattle.trace_clauses.proofs.LinkEnds.{is_live-next}
-use Rattle.trace_clauses.proofs.WaitingQueue.{all_contained, contains_cases}
+use Rattle.trace_events.specs.Clauses.{first_broken}
+use Rattle.trace_events.proofs.BegunDeliveries.{IsBegun, begun-noted, begun-noted_later, judged-begun}
+use Rattle.trace_events.proofs.LinkEnds.{is_live-next}
+use Rattle.trace_events.proofs.WaitingQueue.{all_contained, contains_cases}
 use Rattle.number_groups.specs.Ascending.{has}
 use Rattle.state_outgoing.specs.Sent.{is_left_unsettled}
 use Rattle.state_tables.specs.EndedLinks.{AreEnded}

@@ -15,9 +15,9 @@ use Rattle.trace_events.specs.Incoming.{address_of, completed_by, incoming_at, i
 use Rattle.trace_events.specs.Outgoing.{answering, names, outgoing_begun, outgoing_deliveries}
 use Rattle.trace_events.specs.Waiting.{is_waiting}
 use Rattle.trace_events.proofs.Judged.{AreJudged}
-use Rattle.trace_clauses.proofs.IncomingProgress.{judged-kept}
-use Rattle.trace_clauses.proofs.Parts.{IsKept, each_delivery}
-use Rattle.trace_clauses.proofs.WaitingQueue.{all_contained}
+use Rattle.trace_events.proofs.IncomingProgress.{judged-kept}
+use Rattle.trace_events.proofs.Parts.{IsKept, each_delivery}
+use Rattle.trace_events.proofs.WaitingQueue.{all_contained}
 use Rattle.state_tables.specs.EndedLinks.{AreEnded}
 use Rattle.number_groups.specs.Ascending.{has}
 use Rattle.state_outgoing.specs.Sent.{is_left_unsettled}

@@ -24,22 +24,22 @@ use Rattle.trace_events.proofs.Judged.{AreJudged, judged-number}
 use Rattle.trace_events.proofs.Links.{passing}
 use Rattle.trace_events.proofs.OutgoingSteps.{pairing-same, pairing-another}
 use Rattle.trace_events.proofs.SettlingSteps.{is_closed-step}
-use Rattle.trace_clauses.specs.BestVerdict.{has_all_verdicts}
-use Rattle.trace_clauses.specs.Clauses.{first_broken}
-use Rattle.trace_clauses.specs.CopyVerdict.{awaits_verdict}
-use Rattle.trace_clauses.specs.Outcome.{is_sent_settled, is_to_tell}
-use Rattle.trace_clauses.specs.Telling.{answers_now, gets_last_verdict, gets_outcome, has_outcome, is_answered}
-use Rattle.trace_clauses.proofs.BegunDeliveries.{IsBegun, begun-carries, begun-noted, begun-noted_later, begun-noted_now, begun-own, judged-begun}
-use Rattle.trace_clauses.proofs.ClausesMet.{lawful-past}
-use Rattle.trace_clauses.proofs.IncomingProgress.{judged-kept}
-use Rattle.trace_clauses.proofs.Incomings.{judged-part, judged-sound}
-use Rattle.trace_clauses.proofs.Incomings.{IsPartOf as PartIn}
-use Rattle.trace_clauses.proofs.LinkEnds.{is_live-next, lives-live}
-use Rattle.trace_clauses.proofs.OutcomesToTell.{is_to_tell-parts, is_to_tell_moves}
-use Rattle.trace_clauses.proofs.OutgoingProgress.{judged-carrying, judged-outgoing_part}
-use Rattle.trace_clauses.proofs.OutgoingProgress.{IsPartOf as PartOut}
-use Rattle.trace_clauses.proofs.Parts.{IsKept, each_delivery}
-use Rattle.trace_clauses.proofs.WaitingQueue.{address_stays, all_contained, find_has, multicast_stays}
+use Rattle.trace_events.specs.BestVerdict.{has_all_verdicts}
+use Rattle.trace_events.specs.Clauses.{first_broken}
+use Rattle.trace_events.specs.CopyVerdict.{awaits_verdict}
+use Rattle.trace_events.specs.Outcome.{is_sent_settled, is_to_tell}
+use Rattle.trace_events.specs.Telling.{answers_now, gets_last_verdict, gets_outcome, has_outcome, is_answered}
+use Rattle.trace_events.proofs.BegunDeliveries.{IsBegun, begun-carries, begun-noted, begun-noted_later, begun-noted_now, begun-own, judged-begun}
+use Rattle.trace_events.proofs.ClausesMet.{lawful-past}
+use Rattle.trace_events.proofs.IncomingProgress.{judged-kept}
+use Rattle.trace_events.proofs.Incomings.{judged-part, judged-sound}
+use Rattle.trace_events.proofs.Incomings.{IsPartOf as PartIn}
+use Rattle.trace_events.proofs.LinkEnds.{is_live-next, lives-live}
+use Rattle.trace_events.proofs.OutcomesToTell.{is_to_tell-parts, is_to_tell_moves}
+use Rattle.trace_events.proofs.OutgoingProgress.{judged-carrying, judged-outgoing_part}
+use Rattle.trace_events.proofs.OutgoingProgress.{IsPartOf as PartOut}
+use Rattle.trace_events.proofs.Parts.{IsKept, each_delivery}
+use Rattle.trace_events.proofs.WaitingQueue.{address_stays, all_contained, find_has, multicast_stays}
 use Rattle.number_groups.specs.Ascending.{has}
 use Rattle.state_outgoing.specs.Sent.{is_left_unsettled}
 use Rattle.state_outgoing.proofs.SentDecided.{judged-decided}

@@ -4,7 +4,7 @@ use Rattle.pairing_cert.specs.declared.note.Why.{Why}
 use Rattle.capture_form.specs.Rules.{RuleSet}
 use Rattle.trace_events.specs.Event.{Event, Incoming}
 use Rattle.trace_events.specs.Incoming.{incoming_at}
-use Rattle.trace_clauses.specs.Outcome.{may_be_told, row}
+use Rattle.trace_events.specs.Outcome.{may_be_told, row}
 
 -- the delivery may be told, and the row tells it this state, by its octets, or none
 pub record IsDueOutcome (rules : RuleSet) (past : List Event) (d : Incoming) (why : Why) (state : Option (List ℕ)) : Type 0 where

@@ -8,7 +8,7 @@ use Rattle.trace_events.specs.Incoming.{incoming_deliveries}
 use Rattle.trace_events.specs.Outgoing.{noted, outgoing_deliveries}
 use Rattle.trace_events.specs.Settling.{is_closed}
 use Rattle.trace_events.specs.Waiting.{is_of_multicast}
-use Rattle.trace_clauses.specs.Outcome.{is_to_tell}
+use Rattle.trace_events.specs.Outcome.{is_to_tell}
 use Rattle.number_groups.specs.Ascending.{has}
 use Rattle.due_outcomes.specs.declared.untold.Untold.{Untold}
 

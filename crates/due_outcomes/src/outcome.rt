@@ -2,20 +2,20 @@
 
 ghost use Rattle.std.specs.Prelude.{◌≡◌, List, false, None, Contains, IfSome};
 ghost use Rattle.capture_form.specs.declared.records.Record.{Record};
-ghost use Rattle.trace_clauses.specs.Outcome.{is_to_tell};
+ghost use Rattle.trace_events.specs.Outcome.{is_to_tell};
 ghost use Rattle.trace_events.specs.Event as events;
 ghost use Rattle.trace_events.specs.History.{history};
 ghost use Rattle.trace_events.specs.Incoming.{incoming_deliveries};
 ghost use Rattle.trace_judge.specs.Told.{told_view};
-ghost use Rattle.trace_values.specs.View.{incoming_view};
+ghost use Rattle.trace_events.specs.View.{incoming_view};
 ghost use Rattle.state_answers.specs.Tables.{TellsOf};
 ghost use Rattle.due_outcomes.specs.DueOutcomes.{IsDueOutcome};
 
 use capture_form::RuleSet;
 use pairing_cert::Why;
 use state_answers::LentTables;
+use trace_events::Incoming;
 use trace_judge::{Told, first_row, may_be_told};
-use trace_values::Incoming;
 
 /// An outcome that is due.
 #[derive(Clone, Copy)]

@@ -10,7 +10,7 @@ ghost use Rattle.trace_events.specs.Link.{is_producer};
 ghost use Rattle.trace_events.specs.Words.{is_number, is_some_and};
 ghost use Rattle.amqp_perf.specs.View.{disposition_fields};
 ghost use Rattle.trace_duties.specs.Quiet.{none_is_unsettled};
-ghost use Rattle.trace_values.specs.View.{event_view, outgoing_view};
+ghost use Rattle.trace_events.specs.View.{event_view, outgoing_view};
 ghost use Rattle.state_outgoing.specs.SentAnswers as sent;
 ghost use Rattle.state_outgoing.specs.SentTables.{sent_in};
 ghost use Rattle.state_outgoing.specs.SentViews.{sent_view};
@@ -34,7 +34,7 @@ use pairing_cert::Note;
 use state_answers::{EventEffects, LentTables, add_all};
 use state_outgoing::SentDelivery;
 use std::alloc::{AllocError, Global};
-use trace_values::{Event, Link, Outgoing};
+use trace_events::{Event, Link, Outgoing};
 
 /// The deliveries to settle with their consumers, among those that are decided and still unsettled.
 #[derive(Drop)]

@@ -14,7 +14,7 @@ ghost use Rattle.trace_events.specs.Link.{is_consumer};
 ghost use Rattle.trace_events.specs.Outgoing.{names, outgoing_begun};
 ghost use Rattle.trace_events.specs.Words.{is_number, is_some_and};
 ghost use Rattle.trace_judge.specs.Told.{told_view};
-ghost use Rattle.trace_values.specs.View.{event_view, incoming_view, link_view, outgoing_view};
+ghost use Rattle.trace_events.specs.View.{event_view, incoming_view, link_view, outgoing_view};
 ghost use Rattle.state_incoming.specs.EntryAnswers.{is_shut};
 ghost use Rattle.state_incoming.specs.HeldTables.{held_in};
 ghost use Rattle.state_outgoing.specs.SentAnswers.{carried};
@@ -34,8 +34,8 @@ use state_answers::{EventEffects, LentTables, add, add_octet_group, add_of_links
 use state_incoming::HeldDelivery;
 use state_outgoing::SentDeliveries;
 use std::alloc::{AllocError, Global};
+use trace_events::{Event, Link, Outgoing, has_multicast};
 use trace_judge::Outcomes;
-use trace_values::{Event, Link, Outgoing, has_multicast};
 
 /// The outcomes to tell.
 #[derive(Drop)]

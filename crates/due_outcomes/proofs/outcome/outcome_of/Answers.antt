@@ -3,8 +3,8 @@ use Rattle.std.specs.List.{list_any}
 use Rattle.trace_events.specs.Event.{Incoming}
 use Rattle.trace_events.specs.History.{history}
 use Rattle.trace_events.specs.Incoming.{incoming_at}
-use Rattle.trace_clauses.specs.Outcome.{may_be_told, reasons, row}
-use Rattle.trace_values.specs.View.{incoming_view}
+use Rattle.trace_events.specs.Outcome.{may_be_told, reasons, row}
+use Rattle.trace_events.specs.View.{incoming_view}
 use Rattle.state_incoming.specs.EntryAnswers.{has_entry}
 use Rattle.state_incoming.proofs.KnownEntries.{knows-at}
 use Rattle.due_outcomes.proofs.OutcomeTables.{begun-at, knows-has, unless-told}

@@ -1,6 +1,6 @@
 use Rattle.std.proofs.Common.{◌∙◌, false}
 use Rattle.trace_events.specs.Link.{is_producer}
-use Rattle.trace_values.specs.View.{link_view}
+use Rattle.trace_events.specs.View.{link_view}
 use Rattle.state_tables.proofs.GroupLists.{any-map, each-in}
 use Rattle.due_outcomes.proofs.unsettled.has_producer.Goals as goal
 

@@ -3,7 +3,7 @@ use Rattle.std.specs.List.{list_any}
 use Rattle.number_groups.specs.Ascending.{has}
 use Rattle.number_groups.specs.OctetGroups as octets
 use Rattle.trace_events.specs.Link.{is_consumer}
-use Rattle.trace_values.specs.View.{link_view}
+use Rattle.trace_events.specs.View.{link_view}
 use Rattle.due_outcomes.proofs.untold.add_waiting.Given as goal
 
 abbrev pub invariant-loop-link : goal.invariant-loop-link

@@ -2,8 +2,8 @@ use Rattle.std.proofs.Common.{◌≡◌, refl, sym, ℕ, List, Option, Some, Non
 use Rattle.capture_form.specs.Rules.{RuleSet}
 use Rattle.capture_form.specs.declared.records.Record.{Record}
 use Rattle.trace_events.specs.History.{history}
-use Rattle.trace_values.specs.View.{outgoing_view}
-use Rattle.trace_values.specs.declared.event.Outgoing.{Outgoing}
+use Rattle.trace_events.specs.View.{outgoing_view}
+use Rattle.trace_events.specs.declared.event.Outgoing.{Outgoing}
 use Rattle.state_answers.specs.declared.lent_tables.LentTables.{LentTables}
 use Rattle.state_answers.specs.Tables.{TellsOf}
 use Rattle.due_outcomes.specs.Settlings.{IsDueSettling, due_in}

@@ -3,8 +3,8 @@ use Rattle.number_groups.specs.Ascending.{has}
 use Rattle.number_groups.specs.Numbers.{is_among}
 use Rattle.trace_events.specs.History.{history}
 use Rattle.trace_events.proofs.Judged.{AreJudged, history-judged}
-use Rattle.trace_clauses.proofs.ClausesMet.{lawful-past}
-use Rattle.trace_values.specs.View.{event_view}
+use Rattle.trace_events.proofs.ClausesMet.{lawful-past}
+use Rattle.trace_events.specs.View.{event_view}
 use Rattle.state_tables.specs.EndedLinks.{views}
 use Rattle.due_outcomes.specs.Closings.{may_close}
 use Rattle.due_outcomes.proofs.UnderKeys.{or-first, or-last}

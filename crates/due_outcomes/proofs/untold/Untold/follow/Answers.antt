@@ -7,7 +7,7 @@ use Rattle.trace_events.specs.History.{history}
 use Rattle.trace_events.specs.Link.{is_consumer}
 use Rattle.trace_events.specs.Words.{is_number}
 use Rattle.trace_events.proofs.Judged.{AreJudged, history-judged}
-use Rattle.trace_values.specs.View.{event_view, link_view}
+use Rattle.trace_events.specs.View.{event_view, link_view}
 use Rattle.state_outgoing.specs.SentAnswers.{carried}
 use Rattle.state_outgoing.specs.SentTables.{sent_in}
 use Rattle.state_tables.specs.EndedLinks.{views}
