@@ -5,7 +5,7 @@ use Rattle.std.specs.List.{concat}
 use Rattle.std.proofs.lemmas.List.{reverse-append, take-append-drop}
 use Rattle.capture_form.specs.declared.records.Record.{Record}
 use Rattle.core_exchange.specs.declared.seat.Seat.{Seat}
-use Rattle.trace_clauses.specs.Kept.{AreFirst}
+use Rattle.trace_events.specs.Kept.{AreFirst}
 use Rattle.core_exchange.specs.Seats.{SeatAgrees, SeatsAgree, inputs_on, outs_on}
 use Rattle.conn_workers.specs.declared.report.ConnReport.{ConnReport}
 use Rattle.conn_engine.specs.Served.{IsServed}

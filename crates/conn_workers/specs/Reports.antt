@@ -4,7 +4,7 @@ use Rattle.capture_form.specs.declared.records.Record.{Record}
 use Rattle.capture_form.specs.Rules.{RuleSet}
 use Rattle.capture_form.specs.Text.{Trace}
 use Rattle.address_table.specs.Served.{AreSameRules}
-use Rattle.trace_clauses.specs.Kept.{AreFirst}
+use Rattle.trace_events.specs.Kept.{AreFirst}
 use Rattle.core_exchange.specs.Captures.{IsOfCore}
 use Rattle.core_exchange.specs.Seats.{inputs_on, outs_on, owned_below}
 use Rattle.conn_workers.specs.declared.report.ConnReport.{ConnReport}

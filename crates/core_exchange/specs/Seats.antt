@@ -6,7 +6,7 @@ use Rattle.capture_form.specs.declared.records.Record.{Record}
 use Rattle.capture_form.specs.Rules.{RuleSet}
 use Rattle.capture_form.specs.Text.{Trace, frame_of}
 use Rattle.address_table.specs.Served.{AreSameRules}
-use Rattle.trace_clauses.specs.Kept.{AreFirst}
+use Rattle.trace_events.specs.Kept.{AreFirst}
 use Rattle.route_items.specs.Inputs.{is_output}
 use Rattle.route_items.specs.WrittenFrames.{writes_on}
 use Rattle.core_exchange.specs.declared.seat.Seat.{Seat}

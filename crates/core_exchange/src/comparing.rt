@@ -4,7 +4,7 @@ ghost use Rattle.std.specs.Prelude.{◌≡◌, ◌↔◌, IsTrue, true};
 ghost use Rattle.capture_form.specs.Text.{frame_of};
 ghost use Rattle.route_items.specs.Inputs.{is_output};
 ghost use Rattle.route_items.specs.WrittenFrames.{writes_on};
-ghost use Rattle.trace_clauses.specs.Kept.{AreFirst};
+ghost use Rattle.trace_events.specs.Kept.{AreFirst};
 ghost use Rattle.core_exchange.specs.Seats.{Agrees, SeatAgrees, SeatsAgree, inputs_on, outs_on, is_input_on, owned_below, is_owned_below};
 
 use crate::seat::Seat;

@@ -3,7 +3,7 @@
 ghost use Rattle.std.specs.Prelude.{◌≡◌, ◌<◌, [], None, true, false, length, IfOk, OnOk};
 ghost use Rattle.capture_journal.specs.Journals.{IsPassedOn, IsWhole};
 ghost use Rattle.trace_events.specs.History.{history};
-ghost use Rattle.trace_clauses.specs.Clauses.{first_broken};
+ghost use Rattle.trace_events.specs.Clauses.{first_broken};
 ghost use Rattle.trace_duties.specs.Diligent.{is_diligent};
 ghost use Rattle.trace_duties.specs.Turn.{is_ordered};
 ghost use Rattle.indexmap.specs.IndexMap.{index_map_len};

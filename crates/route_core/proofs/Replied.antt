@@ -9,7 +9,7 @@ use Rattle.capture_form.specs.Text.{IsRecord, Trace}
 use Rattle.trace_events.specs.Frame.{Spoken}
 use Rattle.trace_events.specs.Event.{Event}
 use Rattle.trace_events.specs.History.{history}
-use Rattle.trace_clauses.specs.Written.{spoken_octets}
+use Rattle.trace_events.specs.Written.{spoken_octets}
 use Rattle.route_work.specs.Dues.{IsNextFrame}
 use Rattle.route_work.specs.declared.router_state.RouterState.{RouterState}
 use Rattle.route_work.specs.RouterState.{IsRouterState, AreInOrder, IsUnbroken}

@@ -2,7 +2,7 @@
 use Rattle.std.proofs.Common.{◌≡◌, ap, ℕ, ◌≤◌, List, length, arith}
 use Rattle.flow_counts.specs.declared.profile.TheConstants.{MAX_FRAME_SIZE}
 use Rattle.amqp_perf.specs.View.{attach_fields}
-use Rattle.trace_clauses.specs.Written.{spoken_octets}
+use Rattle.trace_events.specs.Written.{spoken_octets}
 use Rattle.route_answers.specs.declared.reply.Saying.{Saying}
 use Rattle.route_answers.specs.declared.reply.Saying.TheVariants as sayings
 use Rattle.route_answers.specs.declared.reply.Reply.{Reply}

@@ -8,7 +8,7 @@ use Rattle.capture_form.specs.Text.{IsRecord}
 use Rattle.trace_events.specs.Frame.{Spoken}
 use Rattle.trace_events.specs.Event.{Event, Moment}
 use Rattle.trace_events.specs.History.{judge_moment}
-use Rattle.trace_clauses.specs.Written.{spoken_octets}
+use Rattle.trace_events.specs.Written.{spoken_octets}
 use Rattle.state_answers.specs.Tables.{TellsOf}
 use Rattle.route_answers.specs.Answering.{IsReady, may_happen}
 use Rattle.trace_duties.specs.Answer.{answer}

@@ -12,7 +12,7 @@ use route_answers::{Answer, Reply, answer_to};
 use state_answers::LentTables;
 use state_ledger::HeldEvent;
 use std::alloc::{AllocError, Global};
-use trace_values::ReadRecord;
+use trace_events::ReadRecord;
 
 /// The records of a direct answer, in order.
 #[derive(Drop)]

@@ -4,9 +4,9 @@ use Rattle.capture_form.specs.declared.records.Record.{Record}
 use Rattle.capture_form.specs.Rules.{RuleSet}
 use Rattle.trace_events.specs.Event.{Event}
 use Rattle.trace_events.specs.History.{judge, history, moment_of}
-use Rattle.trace_clauses.specs.Clauses.{first_broken}
-use Rattle.trace_clauses.proofs.Lawful.{history-push}
-use Rattle.trace_clauses.proofs.Broken.{length-history}
+use Rattle.trace_events.specs.Clauses.{first_broken}
+use Rattle.trace_events.proofs.Lawful.{history-push}
+use Rattle.trace_events.proofs.Broken.{length-history}
 use Rattle.state_tables.specs.Connections.{IsLawfulNext}
 use Rattle.route_work.specs.RouterState.{IsUnbroken}
 

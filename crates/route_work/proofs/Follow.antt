@@ -14,10 +14,10 @@ use Rattle.trace_events.specs.Frame.{Spoken}
 use Rattle.trace_events.specs.Event.{Event, Link, Incoming, Outgoing, Out}
 use Rattle.trace_events.proofs.Along.{and_first, and_last}
 use Rattle.trace_events.specs.declared.session.Session.{Session}
-use Rattle.trace_clauses.specs.FlowClause.{full_credit, drained_count}
-use Rattle.trace_clauses.specs.Written.{spoken_octets, written_settling, written_session_flow, written_credit, written_count}
+use Rattle.trace_events.specs.FlowClause.{full_credit, drained_count}
+use Rattle.trace_events.specs.Written.{spoken_octets, written_settling, written_session_flow, written_credit, written_count}
 use Rattle.trace_judge.specs.Told.{told_view}
-use Rattle.trace_values.specs.View.{link_view, incoming_view}
+use Rattle.trace_events.specs.View.{link_view, incoming_view}
 use Rattle.route_dues.specs.Outcomes.{HasState, octets_in, outcome_frame}
 use Rattle.route_dues.specs.Transfers.{first_frame, next_frame}
 use Rattle.trace_duties.specs.Quiet.{none_is_untold, none_stands_still}

@@ -4,7 +4,7 @@ use Rattle.capture_form.specs.declared.records.Record.{Record}
 use Rattle.capture_form.specs.Rules.{RuleSet}
 use Rattle.trace_events.specs.Event.{Event}
 use Rattle.trace_events.specs.History.{judge, history}
-use Rattle.trace_clauses.specs.Clauses.{broken_clause}
+use Rattle.trace_events.specs.Clauses.{broken_clause}
 use Rattle.state_answers.specs.Tables.{AreTables, completed_by_all}
 use Rattle.route_dues.specs.Writing.{IsInOrder}
 use Rattle.route_work.specs.declared.router_state.RouterState.{RouterState}

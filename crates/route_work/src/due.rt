@@ -2,8 +2,7 @@
 
 use due_lists::{DueBegin, DuePart};
 use due_outcomes::DueOutcome;
-use trace_events::Session;
-use trace_values::{Link, Outgoing};
+use trace_events::{Link, Outgoing, Session};
 
 /// What is due to be written.
 #[derive(Clone, Copy)]

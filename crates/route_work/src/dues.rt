@@ -7,7 +7,7 @@ ghost use Rattle.trace_events.specs.History.{history};
 ghost use Rattle.state_tables.specs.Connections.{IsLawfulNext};
 ghost use Rattle.state_tables.specs.Addressed.{IsAddressed};
 ghost use Rattle.trace_duties.specs.Quiet.{is_quiet};
-ghost use Rattle.trace_values.specs.View.{Events, event_view};
+ghost use Rattle.trace_events.specs.View.{Events, event_view};
 ghost use Rattle.state_answers.specs.Tables.{TellsOf};
 ghost use Rattle.state_answers.specs.Effects.{AreEffects};
 ghost use Rattle.route_work.specs.Dues.{IsDue, is_in_turn};
@@ -16,7 +16,7 @@ use crate::Due;
 use capture_form::RuleSet;
 use state_answers::{EventEffects, LentTables};
 use std::alloc::{AllocError, Global};
-use trace_values::Event;
+use trace_events::Event;
 
 /// Lists of what may be due, from which the next that is due is found without a search through all deliveries, links or
 /// sessions. They are moved by one event after the other, and ask the tables of what else they need.

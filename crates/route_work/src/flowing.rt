@@ -5,7 +5,7 @@ ghost use Rattle.std.specs.Prelude.{◌≡◌, true, ◌∷◌, List, [], None, 
 ghost use Rattle.capture_form.specs.Rules.{RuleSet};
 ghost use Rattle.capture_form.specs.declared.records.Record.{Record};
 ghost use Rattle.trace_events.specs.History.{history};
-ghost use Rattle.trace_values.specs.View.{event_view};
+ghost use Rattle.trace_events.specs.View.{event_view};
 ghost use Rattle.state_tables.specs.Connections.{IsLawfulNext};
 ghost use Rattle.state_answers.specs.Tables.{TellsOf};
 ghost use Rattle.state_answers.specs.Effects.{AreEffects};
@@ -17,7 +17,7 @@ use capture_form::RuleSet;
 use due_lists::{Credits, Drains, Windows};
 use state_answers::{EventEffects, LentTables};
 use std::alloc::{AllocError, Global};
-use trace_values::Event;
+use trace_events::Event;
 
 /// Drains to answer, links that may be given credit, and sessions that may be given their window.
 pub struct Flowing {

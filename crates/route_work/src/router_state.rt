@@ -12,7 +12,7 @@ ghost use Rattle.route_dues.specs.Writing.{IsInOrder};
 ghost use Rattle.capture_form.specs.Text.{IsRecord};
 ghost use Rattle.route_work.specs.RouterState.{IsRouterState, AreInOrder, IsUnbroken};
 ghost use Rattle.state_tables.specs.Connections.{IsLawfulNext};
-ghost use Rattle.trace_values.specs.View.{Events, event_view};
+ghost use Rattle.trace_events.specs.View.{Events, event_view};
 
 use crate::dues::Dues;
 use crate::record_of;
@@ -20,8 +20,8 @@ use capture_form::{Record, RuleSet};
 use state_answers::{EventEffects, LentTables, Tables, completed_for};
 use state_ledger::HeldEvent;
 use std::alloc::{AllocError, Global};
+use trace_events::{Event, ReadRecord};
 use trace_judge::{judge_unopened, open};
-use trace_values::{Event, ReadRecord};
 
 /// The tables of the records so far, and what is due behind them.
 pub struct RouterState<D: Dues> {

@@ -7,7 +7,7 @@ ghost use Rattle.capture_form.specs.declared.records.Record.{Record};
 ghost use Rattle.trace_events.specs.History.{history};
 ghost use Rattle.trace_duties.specs.Quiet.{none_stands_still};
 ghost use Rattle.trace_duties.specs.Turn.{is_all_told, is_first_to_begin};
-ghost use Rattle.trace_values.specs.View.{Events, event_view, incoming_view};
+ghost use Rattle.trace_events.specs.View.{Events, event_view, incoming_view};
 ghost use Rattle.state_tables.specs.Connections.{IsLawfulNext};
 ghost use Rattle.state_tables.specs.Addressed.{IsAddressed};
 ghost use Rattle.state_answers.specs.Tables.{TellsOf};
@@ -22,7 +22,7 @@ use capture_form::RuleSet;
 use due_lists::{DeliveriesInProgress, DueBegin, UnsentCopies, Waiting};
 use state_answers::{EventEffects, LentTables};
 use std::alloc::{AllocError, Global};
-use trace_values::Event;
+use trace_events::Event;
 
 /// Deliveries to consumers that may go on or begin.
 pub struct Sending {

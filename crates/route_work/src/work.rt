@@ -10,7 +10,7 @@ use crate::{Due, Dues};
 use capture_form::RuleSet;
 use state_answers::{EventEffects, LentTables};
 use std::alloc::{AllocError, Global};
-use trace_values::Event;
+use trace_events::Event;
 
 /// What may be due of a router's work. First it tells what is to be told, then it sends what may be sent, and what links and
 /// sessions lack it gives last.

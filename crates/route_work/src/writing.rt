@@ -5,7 +5,7 @@ ghost use Rattle.pairing_cert.specs.declared.note.Note.TheVariants as notes;
 ghost use Rattle.capture_form.specs.Rules.{RuleSet};
 ghost use Rattle.capture_form.specs.Text.{IsRecord};
 ghost use Rattle.trace_judge.specs.Told.{told_view};
-ghost use Rattle.trace_values.specs.View.{Events, incoming_view};
+ghost use Rattle.trace_events.specs.View.{Events, incoming_view};
 ghost use Rattle.route_dues.specs.Outcomes.{HasState};
 ghost use Rattle.route_dues.specs.Writing.{IsInOrder};
 ghost use Rattle.due_outcomes.specs.DueOutcomes.{IsDueOutcome};

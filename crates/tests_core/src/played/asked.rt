@@ -5,9 +5,8 @@ use kit_talks::{Names, Telling, Words};
 use state_incoming::HeldDelivery;
 use state_ledger::Ledger;
 use std::alloc::{AllocError, Global};
-use trace_events::Session;
+use trace_events::{Asking, Link, Session};
 use trace_judge::{Counts, Inputs, Openings, Outcomes};
-use trace_values::{Asking, Link};
 
 /// Who answers: the tables of a ledger, by these rules, of deliveries with these names.
 #[derive(Clone, Copy)]

@@ -1,5 +1,5 @@
 use Rattle.std.proofs.Common.{◌≡◌, ◌≤◌, vec_len}
-use Rattle.trace_clauses.specs.Kept.{AreFirst}
+use Rattle.trace_events.specs.Kept.{AreFirst}
 use Rattle.conn_workers.proofs.run.deal.Given as goal
 
 abbrev pub invariant-loop-gate : goal.invariant-loop-gate

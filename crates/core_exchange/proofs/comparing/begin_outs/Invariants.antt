@@ -1,5 +1,5 @@
 use Rattle.std.proofs.Common.{◌↔◌, drop}
-use Rattle.trace_clauses.specs.Kept.{AreFirst}
+use Rattle.trace_events.specs.Kept.{AreFirst}
 use Rattle.core_exchange.specs.Seats.{outs_on}
 use Rattle.core_exchange.proofs.comparing.begin_outs.Given as goal
 

@@ -1,5 +1,5 @@
 use Rattle.std.proofs.Common.{ap, ◌∙◌, ◌++◌}
-use Rattle.trace_clauses.specs.Written.{spoken_octets}
+use Rattle.trace_events.specs.Written.{spoken_octets}
 use Rattle.route_answers.specs.Replies.{reply_view}
 use Rattle.route_core.proofs.ShortReplies.{within_frame}
 use Rattle.route_core.proofs.replies.record_of_reply.Goals as goal

@@ -1,7 +1,7 @@
 use Rattle.std.proofs.Common.{◌≡◌, true, subst, unwrap_or}
-use Rattle.trace_clauses.specs.FlowClause.{full_credit, drained_count}
-use Rattle.trace_clauses.specs.Written.{spoken_octets, written_settling, written_session_flow, written_credit, written_count}
-use Rattle.trace_values.specs.View.{link_view, incoming_view, outgoing_view}
+use Rattle.trace_events.specs.FlowClause.{full_credit, drained_count}
+use Rattle.trace_events.specs.Written.{spoken_octets, written_settling, written_session_flow, written_credit, written_count}
+use Rattle.trace_events.specs.View.{link_view, incoming_view, outgoing_view}
 use Rattle.route_dues.specs.Transfers.{first_frame, next_frame}
 use Rattle.route_dues.specs.Writing.{IsReadAgain}
 use Rattle.route_work.specs.declared.due.Due.TheVariants as dues

@@ -1,9 +1,9 @@
 use Rattle.std.proofs.Common.{option_map}
 use Rattle.amqp_perf.specs.NestedViews.{state_view}
 use Rattle.pairing_cert.specs.declared.note.Note.TheVariants as notes
-use Rattle.trace_clauses.specs.Written.{spoken_octets}
+use Rattle.trace_events.specs.Written.{spoken_octets}
 use Rattle.trace_judge.specs.Told.{told_view}
-use Rattle.trace_values.specs.View.{incoming_view}
+use Rattle.trace_events.specs.View.{incoming_view}
 use Rattle.route_dues.specs.Outcomes.{outcome_frame}
 use Rattle.route_work.specs.Dues.{IsFrameFor}
 use Rattle.route_work.proofs.Follow.{appended, outcome_frame_for}

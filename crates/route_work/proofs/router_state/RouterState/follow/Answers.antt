@@ -1,7 +1,7 @@
 use Rattle.std.proofs.Common.{◌≡◌, subst, sym, ap, ◌∙◌, List}
 use Rattle.trace_events.specs.Event.{Event}
 use Rattle.trace_events.specs.History.{history}
-use Rattle.trace_values.specs.View.{event_view}
+use Rattle.trace_events.specs.View.{event_view}
 use Rattle.state_tables.specs.Addressed.{IsAddressed}
 use Rattle.state_answers.specs.Tables.{AreTables, completed_by_all, completed_with}
 use Rattle.route_work.proofs.Entering.{longer}

@@ -1,13 +1,13 @@
 use Rattle.std.proofs.Common.{◌≡◌, sym, ap, subst, ◌∙◌, true, is_some}
-use Rattle.trace_clauses.proofs.Unopened.{broken-unopened}
+use Rattle.trace_events.proofs.Unopened.{broken-unopened}
 use Rattle.trace_events.specs.Event.{Event}
 use Rattle.trace_events.specs.History as law
 use Rattle.trace_events.specs.History.{history, moment_of}
-use Rattle.trace_clauses.specs.LinkClause.{asking}
+use Rattle.trace_events.specs.LinkClause.{asking}
 use Rattle.trace_events.specs.Session.{StandsLive, has_unanswered_begin}
 use Rattle.trace_events.proofs.Standing.{placed-stands}
-use Rattle.trace_values.specs.Known.{OpensKnown}
-use Rattle.trace_values.specs.View.{event_view}
+use Rattle.trace_events.specs.Known.{OpensKnown}
+use Rattle.trace_events.specs.View.{event_view}
 use Rattle.state_ledger.specs.HeldEvents.{held_event_view}
 use Rattle.state_answers.proofs.NextKnown.{next-opens}
 use Rattle.route_work.proofs.Entering.{numbered, same-event, lawful-next, on_ok}
