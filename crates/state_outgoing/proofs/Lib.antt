@@ -20,6 +20,7 @@ mod LeftLinks
 mod LetGoStands
 pub mod LastKept
 mod SpokenNone
+mod Places
 mod SentFound
 mod SentTaken
 mod VerdictsGiven

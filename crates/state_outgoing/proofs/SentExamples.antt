@@ -1,5 +1,5 @@
 -- What captures say of a delivery to a client, and what one more record makes of it.
-use Rattle.std.specs.Prelude.{◌≡◌, ℕ, Bool, true, false, List, [], ◌∷◌, ◌++◌, Option, Some, None, option_map, refl}
+use Rattle.std.specs.Prelude.{◌≡◌, ℕ, Bool, true, false, List, [], ◌∷◌, ◌++◌, Option, Some, None, option_map, refl, ◌==◌}
 use Rattle.std.specs.Fmt.{digits}
 use Rattle.amqp_perf.specs.declared.attach.Role.TheVariants.{Sender, Receiver}
 use Rattle.amqp_perf.specs.declared.attach.SenderSettleMode.TheVariants as modes
@@ -19,8 +19,10 @@ use Rattle.trace_events.proofs.Made.{from, carry, first, next, as_settled, dispo
 use Rattle.state_outgoing.specs.Sent.{Sent, sent_at, sent_next, sent_begun, sent_behind, begins_number, ends_delivery, decided_with, takes_state, to_settle, goes_on_with}
 use Rattle.number_groups.specs.Ids.{same_id}
 use Rattle.state_outgoing.specs.SentGrouped.{is_of_link, is_of_session, has_id}
-use Rattle.state_outgoing.specs.SentTouched.{touches, part_number, answered_id, answered_session}
+use Rattle.state_outgoing.specs.IdRanges.{are_few, some_place, span}
+use Rattle.state_outgoing.specs.SentTouched.{part_number, spoken_ids, touches}
 use Rattle.number_groups.specs.declared.id_on.IdOn.{IdOn}
+use Rattle.state_outgoing.specs.declared.id_range.IdRange.{IdRange}
 
 -- how many octets were sent, whether the last part is, the octets of the state that is decided, and whether it is unsettled
 abbrev Shown : Type 0
@@ -69,21 +71,17 @@ unfoldable touches_in : List Record → Record → ℕ → Bool
 unfolding frame_read whole_frame frame_at sized_frame headed_frame read digits spoken_octets frame_octets written
 touches_in records r n = let past = history no_rules records in is_some_and (sent_at n past) (touches (judge no_rules past r))
 
--- what one more record is found by: the delivery that it is a part of, the id that its consumer names, whether that is on the
--- session of a delivery, and whether more are named there
+-- what one more record is found by: the delivery that it is a part of; the ids that its consumer names, and whether they are on the
+-- session of a delivery
 unfoldable part_in : List Record → Record → Option ℕ
 unfolding frame_read whole_frame frame_at sized_frame headed_frame read digits spoken_octets frame_octets written
 part_in records r = part_number (judge no_rules (history no_rules records) r)
 
-unfoldable id_in : List Record → Record → ℕ → Option (ℕ × Bool)
+unfoldable ids_in : List Record → Record → ℕ → Option (ℕ × ℕ × Bool)
 unfolding frame_read whole_frame frame_at sized_frame headed_frame read digits spoken_octets frame_octets written
-id_in records r n =
-    let past = history no_rules records in option_map (λ at. (at.id, is_some_and (sent_at n past) (λ x. is_of_session at.session x.delivery))) (answered_id (judge no_rules past r))
-
-unfoldable session_in : List Record → Record → ℕ → Option Bool
-unfolding frame_read whole_frame frame_at sized_frame headed_frame read digits spoken_octets frame_octets written
-session_in records r n =
-    let past = history no_rules records in option_map (λ session. is_some_and (sent_at n past) (λ x. is_of_session session x.delivery)) (answered_session (judge no_rules past r))
+ids_in records r n =
+    let past = history no_rules records in
+    option_map (λ ids. (ids.first, ids.last, is_some_and (sent_at n past) (λ x. is_of_session ids.session x.delivery))) (spoken_ids (judge no_rules past r))
 
 -- ---- captures: delivery 17 goes to the consumer, in one part or in two
 
@@ -91,7 +89,7 @@ session_in records r n =
 abbrev releases : Record
 releases = from 1 (ADisposition (disposes Receiver 0 false released))
 
--- it names more than one id, or one as the last too
+-- it names two ids, or one as the last too
 abbrev accepts_two : Record
 accepts_two = from 1 (ADisposition (record (disposes Receiver 0 true accepted) { last = Some 1 }))
 
@@ -101,9 +99,6 @@ accepts_last = from 1 (ADisposition (record (disposes Receiver 0 true accepted) 
 -- a disposition of a sender
 abbrev settles_as_sender : Record
 settles_as_sender = from 1 (ADisposition (disposes Sender 0 true None))
-
-abbrev settles_two_as_sender : Record
-settles_two_as_sender = from 1 (ADisposition (record (disposes Sender 0 true None) { last = Some 1 }))
 
 -- it says something of another id, or no outcome
 abbrev accepts_another : Record
@@ -353,41 +348,75 @@ part_of_none : part_in carried accepts ≡ None
 unfolding part_in
 part_of_none = refl
 
-names_its_id : id_in carried accepts 17 ≡ Some (0, true)
-unfolding id_in
+names_its_id : ids_in carried accepts 17 ≡ Some (0, 0, true)
+unfolding ids_in
 names_its_id = refl
 
-names_it_twice : id_in carried accepts_last 17 ≡ Some (0, true)
-unfolding id_in
+names_it_twice : ids_in carried accepts_last 17 ≡ Some (0, 0, true)
+unfolding ids_in
 names_it_twice = refl
 
-names_two : id_in carried accepts_two 17 ≡ None
-unfolding id_in
+names_two : ids_in carried accepts_two 17 ≡ Some (0, 1, true)
+unfolding ids_in
 names_two = refl
 
-names_as_sender : id_in carried settles_as_sender 17 ≡ None
-unfolding id_in
+names_as_sender : ids_in carried settles_as_sender 17 ≡ None
+unfolding ids_in
 names_as_sender = refl
 
-names_no_id : id_in carried gives_more 17 ≡ None
-unfolding id_in
-names_no_id = refl
+names_no_ids : ids_in carried gives_more 17 ≡ None
+unfolding ids_in
+names_no_ids = refl
 
-names_a_range : session_in carried accepts_two 17 ≡ Some true
-unfolding session_in
-names_a_range = refl
+-- ---- how far the last id is from the first
 
-names_no_range : session_in carried accepts 17 ≡ None
-unfolding session_in
-names_no_range = refl
+module _ (session : ℕ) where
+  abbrev ids : ℕ → ℕ → IdRange
+  ids first last = record { session = session; first = first; last = last }
 
-range_as_sender : session_in carried settles_two_as_sender 17 ≡ None
-unfolding session_in
-range_as_sender = refl
+  of_one : span (ids 7 7) ≡ 0
+  of_one = refl
 
-names_no_session : session_in carried gives_more 17 ≡ None
-unfolding session_in
-names_no_session = refl
+  of_three : span (ids 7 9) ≡ 2
+  of_three = refl
+
+  -- once round
+  past_the_end : span (ids 4294967295 1) ≡ 2
+  past_the_end = refl
+
+  before_the_first : span (ids 1 0) ≡ 4294967295
+  before_the_first = refl
+
+-- ---- which are looked up one by one
+
+one_of_none : are_few 0 0 ≡ true
+one_of_none = refl
+
+three_of_three : are_few 2 3 ≡ true
+three_of_three = refl
+
+three_of_two : are_few 2 2 ≡ false
+three_of_two = refl
+
+two_of_none : are_few 1 0 ≡ false
+two_of_none = refl
+
+-- ---- whether one of so many places passes
+
+abbrev is_second : ℕ → Bool
+is_second place = place == 1
+
+at_the_second : some_place is_second 2 ≡ true
+unfolding some_place
+at_the_second = refl
+
+not_at_the_first : some_place is_second 1 ≡ false
+unfolding some_place
+not_at_the_first = refl
+
+at_none : some_place is_second 0 ≡ false
+unfolding some_place
+at_none = refl
 
 -- ---- the keys of the groups
 

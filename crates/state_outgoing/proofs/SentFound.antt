@@ -1,11 +1,12 @@
 -- What the groups don't find for an event, it doesn't touch.
-use Rattle.std.proofs.Common.{◌≡◌, refl, sym, ap, ◌∙◌, inl, inr, ◌+◌, ◌-◌, ◌%◌, ◌^◌, ◌<◌, ◌≤◌, ℕ, Bool, true, false, ◌&&◌, ◌||◌, not, List, [], ◌∷◌, Option, Some, None, IfSome, is_some, nat_eq, nat_lt, nat_le, option_map, option_and_then, subst, arith, if◌then◌else◌, ◌==◌, eqb-true, eq-eqb, leb-true}
+use Rattle.std.proofs.Common.{◌≡◌, refl, sym, ap, ◌∙◌, inl, inr, ◌+◌, ◌-◌, ◌%◌, ◌^◌, ◌<◌, ◌≤◌, ℕ, Bool, true, false, ◌&&◌, ◌||◌, not, List, [], ◌∷◌, length, Option, Some, None, IfSome, is_some, nat_eq, nat_lt, nat_le, option_map, option_and_then, subst, arith, if◌then◌else◌, ◌==◌, eqb-true, eq-eqb, leb-true, ltb-true}
+use Rattle.std.proofs.lemmas.Bool.{ltb-false}
 use Rattle.std.specs.Prelude.{Contains}
 use Rattle.std.specs.List.{list_any}
 use Rattle.amqp_perf.specs.Meaning.{DispositionFields, last_id}
 use Rattle.flow_counts.specs.Covers.{covers}
-use Rattle.flow_counts.specs.Serial.{serial_sub}
-use Rattle.number_groups.specs.Groups.{is_member}
+use Rattle.flow_counts.specs.Serial.{serial_add, serial_sub}
+use Rattle.number_groups.specs.Groups.{is_member, numbers}
 use Rattle.capture_form.specs.Rules.{RuleSet}
 use Rattle.trace_events.specs.Words.{is_number, is_some_and, where_passes}
 use Rattle.trace_events.specs.Event.{Event, Link, Outgoing, is_on_session}
@@ -21,9 +22,12 @@ use Rattle.trace_events.proofs.WaitingQueue.{contains_none, contains_cases}
 use Rattle.state_outgoing.specs.Sent.{Sent, sent_at}
 use Rattle.number_groups.specs.Ids.{same_id}
 use Rattle.state_outgoing.specs.SentGrouped.{AreGrouped, is_of_link, is_of_session, has_id}
-use Rattle.state_outgoing.specs.SentTouched.{touches, part_number, names_one, names_more, answered_id, answered_session, may_touch}
+use Rattle.state_outgoing.specs.IdRanges.{IsCounted, are_few, some_place, span, stands_under}
+use Rattle.state_outgoing.specs.SentTouched.{finds, is_spoken_of, may_touch, part_number, spoken_ids, touches}
 use Rattle.state_outgoing.specs.declared.groups.SentGroups.{SentGroups}
+use Rattle.state_outgoing.specs.declared.id_range.IdRange.{IdRange}
 use Rattle.number_groups.specs.declared.id_on.IdOn.{IdOn}
+use Rattle.state_outgoing.proofs.Places.{at-some, or_last}
 use Rattle.state_outgoing.proofs.SentKnown.{sent-of}
 use Rattle.state_outgoing.proofs.SentLinks.{found-linked}
 
@@ -47,19 +51,18 @@ part-none : (o : Option Outgoing) (n : ℕ) → is_number (option_map (λ (j : O
 part-none None n off = refl
 part-none (Some j) n off = off
 
--- ---- a range of one id covers that id alone
+-- ---- an id that a range covers stands at one of its places
 
-one-id : (first id : ℕ) → first < 2 ^ 32 → id < 2 ^ 32 → ((id + 2 ^ 32) - first) % 2 ^ 32 ≤ ((first + 2 ^ 32) - first) % 2 ^ 32 → id ≡ first
-one-id first id small own le = omega (arith, small, own, le)
+-- it stands at its place behind the first
+placed : (first id : ℕ) → first < 2 ^ 32 → id < 2 ^ 32 → (first + ((id + 2 ^ 32) - first) % 2 ^ 32) % 2 ^ 32 ≡ id
+placed first id small own = omega (arith, small, own)
 
-covers-one : (first last id : ℕ) → first < 2 ^ 32 → id < 2 ^ 32 → last ≡ first → covers first last id ≡ true → (id == first) ≡ true
-covers-one first last id small own same is =
-    let le = leb-true (serial_sub id first) (serial_sub last first) (and_both (nat_le (serial_sub id first) (serial_sub last first)) (nat_lt (serial_sub last first) (2 ^ 31)) is).0 in
-    eq-eqb id first (one-id first id small own (subst (λ l. serial_sub id first ≤ serial_sub l first) same le))
+-- at the place of the last it is the last
+is-last : (first last id : ℕ) → first < 2 ^ 32 → last < 2 ^ 32 → id < 2 ^ 32 → ((id + 2 ^ 32) - first) % 2 ^ 32 ≡ ((last + 2 ^ 32) - first) % 2 ^ 32 → id ≡ last
+is-last first last id small most own same = omega (arith, small, most, own, same)
 
-covered-one : (o : Option ℕ) (fields : DispositionFields) → fields.first < 2 ^ 32 → IfSome o (λ id. id < 2 ^ 32) → last_id fields ≡ fields.first → covers_id fields o ≡ true → is_number o fields.first ≡ true
-covered-one None fields small own same is = absurd cc
-covered-one (Some id) fields small own same is = covers-one fields.first (last_id fields) id small own same is
+equal-by : (a b : ℕ) → a ≤ b → b ≤ a → a ≡ b
+equal-by a b le ge = omega (arith, le, ge)
 
 -- ---- one that stands under its number
 
@@ -87,45 +90,70 @@ module _ (groups : SentGroups) (kept : ℕ → Option Sent) (grouped : AreGroupe
       ∙ (ap (λ o. is_some_and o (λ (y : Sent). has_id key.session key.id y.delivery && y.is_unsettled)) at
       ∙ (ap (λ b. b && is_number j.id key.id && x.is_unsettled) same ∙ (ap (λ b. b && x.is_unsettled) named ∙ opens)))
 
-  -- its consumer speaks of it: by its id alone, or by one of a range on its session
+  -- its consumer speaks of it: it is looked up by its id, or it is one of its session
   module _ (opens : x.is_unsettled ≡ true) where
-    abbrev by_id : Option DispositionFields → Option Session → Option IdOn
-    by_id o s = option_and_then (λ (f : DispositionFields). if names_one f then option_map (λ (t : Session). record { session = t.number; id = f.first }) s else None) o
+    module _ (ids : IdRange) (small : IsCounted ids) (on : (j.link.session.number == ids.session) ≡ true) where
+      abbrev stands_at : ℕ → Bool
+      stands_at place = is_member same_id groups.of_id (record { session = ids.session; id = serial_add ids.first place }) n
 
-    abbrev by_session : Option DispositionFields → Option Session → Option ℕ
-    by_session o s = option_and_then (λ (f : DispositionFields). if names_more f then option_map (λ (t : Session). t.number) s else None) o
+      under-id : (id : ℕ) → is_number j.id id ≡ true → id < 2 ^ 32 → covers ids.first ids.last id ≡ true → stands_under groups.of_id ids n ≡ true
+      under-id id named own is = by (nat_lt (serial_sub id ids.first) (span ids)) refl
+        where
+          last_member : Bool
+          last_member = is_member same_id groups.of_id (record { session = ids.session; id = ids.last }) n
 
-    abbrev finds : Option IdOn → Option ℕ → Bool
-    finds id session = is_some_and id (λ key. is_member same_id groups.of_id key n) || is_some_and session (λ s. is_member nat_eq groups.of_session s n)
+          by : (b : Bool) → nat_lt (serial_sub id ids.first) (span ids) ≡ b → some_place stands_at (span ids) || last_member ≡ true
+          by true before =
+              let named_there = subst (λ i. is_number j.id i ≡ true) (sym (placed ids.first id small.0 own)) named in
+              ap (λ b. b || last_member)
+              (at-some stands_at (serial_sub id ids.first) (span ids) (ltb-true (serial_sub id ids.first) (span ids) before)
+              (with-id (record { session = ids.session; id = serial_add ids.first (serial_sub id ids.first) }) on named_there opens))
+          by false behind =
+              let le = leb-true (serial_sub id ids.first) (span ids) (and_both (nat_le (serial_sub id ids.first) (span ids)) (nat_lt (span ids) (2 ^ 31)) is).0 in
+              let ge = ltb-false (serial_sub id ids.first) (span ids) behind in
+              let same : serial_sub id ids.first ≡ span ids = equal-by (serial_sub id ids.first) (span ids) le ge in
+              let last = is-last ids.first ids.last id small.0 small.1 own same in
+              or_last (some_place stands_at (span ids)) last_member
+              (with-id (record { session = ids.session; id = ids.last }) on (subst (λ i. is_number j.id i ≡ true) last named) opens)
 
-    one-or-more : (f : DispositionFields) (t : Session) → (j.link.session.number == t.number) ≡ true → covers_id f j.id ≡ true → is_receiver f.role ≡ true
-        → IfSome (by_id (Some f) (Some t)) (λ key. key.id < 2 ^ 32) → finds (by_id (Some f) (Some t)) (by_session (Some f) (Some t)) ≡ true
-    one-or-more f t on says role small = by (is_receiver f.role) role (last_id f == f.first) refl small
-      where
-        by : (r : Bool) → r ≡ true → (one : Bool) → (last_id f == f.first) ≡ one → IfSome (if r && one then Some (record { session = t.number; id = f.first }) else None) (λ (key : IdOn). key.id < 2 ^ 32)
-            → finds (if r && one then Some (record { session = t.number; id = f.first }) else None) (if r && not one then Some t.number else None) ≡ true
-        by false is one same small = absurd cc
-        by true is true same small =
-            ap (λ b. b || false) (with-id (record { session = t.number; id = f.first }) on (covered-one j.id f small own-id (eqb-true (last_id f) f.first same) says) opens)
-        by true is false same small = in-session t.number on opens
+      under : (o : Option ℕ) → j.id ≡ o → IfSome o (λ id. id < 2 ^ 32) → is_some_and o (covers ids.first ids.last) ≡ true → stands_under groups.of_id ids n ≡ true
+      under None known own is = absurd cc
+      under (Some id) known own is = under-id id (ap (λ o. is_number o id) known ∙ eq-eqb id id refl) own is
+
+      found-by : is_some_and j.id (covers ids.first ids.last) ≡ true → finds groups ids n ≡ true
+      found-by is = by (are_few (span ids) (length (numbers nat_eq groups.of_session ids.session)))
+        where
+          by : (few : Bool) → (if few then stands_under groups.of_id ids n else is_member nat_eq groups.of_session ids.session n) ≡ true
+          by true = under j.id refl own-id is
+          by false = in-session ids.session on opens
+
+    abbrev spoken_by : Option DispositionFields → Option Session → Option IdRange
+    spoken_by o s =
+        option_and_then
+        (λ (f : DispositionFields). if is_receiver f.role then option_map (λ (t : Session). record { session = t.number; first = f.first; last = last_id f }) s else None)
+        o
 
     speaks-by : (o : Option DispositionFields) (s : Option Session) → is_some_and s (λ (t : Session). t.number == j.link.session.number) ≡ true
-        → is_some (where_passes (λ (f : DispositionFields). is_receiver f.role && covers_id f j.id) o) ≡ true → IfSome (by_id o s) (λ key. key.id < 2 ^ 32) → finds (by_id o s) (by_session o s) ≡ true
+        → is_some (where_passes (λ (f : DispositionFields). is_receiver f.role && covers_id f j.id) o) ≡ true → IfSome (spoken_by o s) IsCounted
+        → is_some_and (spoken_by o s) (λ ids. finds groups ids n) ≡ true
     speaks-by None s on says small = absurd cc
     speaks-by (Some f) None on says small = absurd cc
-    speaks-by (Some f) (Some t) on says small = by (is_receiver f.role && covers_id f j.id) refl says
+    speaks-by (Some f) (Some t) on says small = by (is_receiver f.role) (covers_id f j.id) refl says small
       where
-        by : (b : Bool) → is_receiver f.role && covers_id f j.id ≡ b → is_some (if b then Some f else None) ≡ true → finds (by_id (Some f) (Some t)) (by_session (Some f) (Some t)) ≡ true
-        by true is says =
-            let both = and_both (is_receiver f.role) (covers_id f j.id) is in
-            one-or-more f t (same-sym t.number j.link.session.number on) both.1 both.0 small
-        by false is says = absurd cc
+        those : IdRange
+        those = record { session = t.number; first = f.first; last = last_id f }
 
-    pub speaks : (e : Event) → IfSome (answered_id e) (λ key. key.id < 2 ^ 32) → is_some (answering j e) ≡ true → finds (answered_id e) (answered_session e) ≡ true
+        by : (r c : Bool) → covers_id f j.id ≡ c → is_some (if r && c then Some f else None) ≡ true → IfSome (if r then Some those else None) IsCounted
+            → is_some_and (if r then Some those else None) (λ ids. finds groups ids n) ≡ true
+        by false c is says small = absurd cc
+        by true false is says small = absurd cc
+        by true true is says small = found-by those small (same-sym t.number j.link.session.number on) is
+
+    pub speaks : (e : Event) → IfSome (spoken_ids e) IsCounted → is_some (answering j e) ≡ true → is_spoken_of groups e n ≡ true
     speaks e small is = by (e.is_heard && is_on_session j.link.session e && nat_lt j.number e.number) refl is
       where
         by : (b : Bool) → e.is_heard && is_on_session j.link.session e && nat_lt j.number e.number ≡ b
-            → is_some (if b then where_passes (λ (f : DispositionFields). is_receiver f.role && covers_id f j.id) (in_disposition e) else None) ≡ true → finds (answered_id e) (answered_session e) ≡ true
+            → is_some (if b then where_passes (λ (f : DispositionFields). is_receiver f.role && covers_id f j.id) (in_disposition e) else None) ≡ true → is_spoken_of groups e n ≡ true
         by false off says = absurd cc
         by true on says =
             let two = and_both e.is_heard (is_on_session j.link.session e) (and_both (e.is_heard && is_on_session j.link.session e) (nat_lt j.number e.number) on).0 in
@@ -135,22 +163,18 @@ module _ (groups : SentGroups) (kept : ℕ → Option Sent) (grouped : AreGroupe
   over ended = list_any (λ (l : Link). is_member nat_eq groups.of_link l.number n) ended
 
   -- where its link stands among those that end
-  pub found : (e : Event) (ended : List Link) → IfSome (answered_id e) (λ key. key.id < 2 ^ 32) → (x.is_unsettled ≡ true → ends_link j.link e ≡ true → over ended ≡ true)
+  pub found : (e : Event) (ended : List Link) → IfSome (spoken_ids e) IsCounted → (x.is_unsettled ≡ true → ends_link j.link e ≡ true → over ended ≡ true)
       → may_touch groups ended e n ≡ false → touches e x ≡ false
   found e ended small ends off =
-      let id = is_some_and (answered_id e) (λ key. is_member same_id groups.of_id key n) in
-      let session = is_some_and (answered_session e) (λ s. is_member nat_eq groups.of_session s n) in
-      let a = or_none (is_number (part_number e) n || is_number e.settled n || id || session) (over ended) off in
-      let b = or_none (is_number (part_number e) n || is_number e.settled n || id) session a.0 in
-      let c = or_none (is_number (part_number e) n || is_number e.settled n) id b.0 in
-      let d = or_none (is_number (part_number e) n) (is_number e.settled n) c.0 in
-      let part : is_part j e ≡ false = ap (λ m. is_some_and e.outgoing (λ (k : Outgoing). k.number == m)) number ∙ part-none e.outgoing n d.0 in
-      let settles : is_number e.settled j.number ≡ false = ap (is_number e.settled) number ∙ d.1 in
-      let none : id || session ≡ false = ap (λ b. b || session) c.1 ∙ b.1 in
+      let a = or_none (is_number (part_number e) n || is_number e.settled n || is_spoken_of groups e n) (over ended) off in
+      let b = or_none (is_number (part_number e) n || is_number e.settled n) (is_spoken_of groups e n) a.0 in
+      let c = or_none (is_number (part_number e) n) (is_number e.settled n) b.0 in
+      let part : is_part j e ≡ false = ap (λ m. is_some_and e.outgoing (λ (k : Outgoing). k.number == m)) number ∙ part-none e.outgoing n c.0 in
+      let settles : is_number e.settled j.number ≡ false = ap (is_number e.settled) number ∙ c.1 in
       ap (λ b. b || x.is_unsettled && (is_some (answering j e) || ends_link j.link e || is_number e.settled j.number)) part
       ∙ unless (x.is_unsettled && (is_some (answering j e) || ends_link j.link e || is_number e.settled j.number))
       (λ is. by x.is_unsettled (is_some (answering j e)) (ends_link j.link e) (is_number e.settled j.number) is
-      (λ opens says. sym (speaks opens e small says) ∙ none) (λ opens over. sym (ends opens over) ∙ a.1) (λ here. sym here ∙ settles))
+      (λ opens says. sym (speaks opens e small says) ∙ b.1) (λ opens over. sym (ends opens over) ∙ a.1) (λ here. sym here ∙ settles))
     where
       by : (u s l r : Bool) → u && (s || l || r) ≡ true → (u ≡ true → s ≡ true → true ≡ false) → (u ≡ true → l ≡ true → true ≡ false) → (r ≡ true → true ≡ false) → true ≡ false
       by true true l r is first second third = first refl refl
@@ -167,10 +191,6 @@ contained-any p (y ∷ ys) x has is = elim (contains_cases y ys x has) [
   | inl same ↦ ap (λ b. b || list_any p ys) (ap p same ∙ is)
   | inr later ↦ or_last (p y) (list_any p ys) (contained-any p ys x later is)
 ]
-  where
-    or_last : (a b : Bool) → b ≡ true → a || b ≡ true
-    or_last true b is = refl
-    or_last false b is = is
 
 lives-by : (s live c r : Bool) → not s && (live && not c && not r) ≡ true → live ≡ true
 lives-by s true c r is = refl

@@ -2,6 +2,7 @@ pub mod Sent
 pub mod SentViews
 pub mod Given
 pub mod SentGrouped
+pub mod IdRanges
 pub mod SentTouched
 pub mod Earliest
 pub mod LastBegun

@@ -29,7 +29,8 @@ ghost use Rattle.state_outgoing.specs.Sent.{sent_begun, sent_next};
 ghost use Rattle.state_outgoing.specs.SentAnswers.{KnowsOrBegins};
 ghost use Rattle.state_outgoing.specs.SentGrouped.{AreGrouped};
 ghost use Rattle.state_outgoing.specs.SentTables.{AreMovedBy, AreSent, IsTable, MovesAt, is_done_in, is_last_in, last_without, sent_in, sent_count_in};
-ghost use Rattle.state_outgoing.specs.SentTouched.{answered_id, is_spoken_of};
+ghost use Rattle.state_outgoing.specs.IdRanges.{IsCounted};
+ghost use Rattle.state_outgoing.specs.SentTouched.{is_spoken_of, spoken_ids};
 ghost use Rattle.state_outgoing.specs.SentViews.{sent_view};
 ghost use Rattle.trace_events.specs.Known.{IsCarriedBy};
 ghost use Rattle.trace_events.specs.View.{Events, event_view, link_view};
@@ -309,8 +310,8 @@ impl SentDeliveries {
         &self.groups.of_link
     }
 
-    /// The numbers of the unsettled deliveries of which the event's consumer speaks, each once. It takes the time of those of the
-    /// id that it names, or where it names more, of those of its session; and hardly any where it is no client's disposition.
+    /// The numbers of the unsettled deliveries of which the event's consumer speaks, each once. It takes the time of the ids that
+    /// it names, or of what is unsettled on its session where that is less; and hardly any where it is no client's disposition.
     ///
     /// # Errors
     ///
@@ -318,7 +319,7 @@ impl SentDeliveries {
     #[inline(always)]
     pub fn spoken_of(&self, alloc: Global, event: &Event) -> Result<NumberSet, AllocError>
         ensures stored { IfOk result (λ spoken. (n : ℕ) → is_among spoken n ≡ is_spoken_of self.now.groups (event_view event.now) n) }
-        ensures counted { OnOk result (IfSome (answered_id (event_view event.now)) (λ at. at.id < 2 ^ 32)) }
+        ensures counted { OnOk result (IfSome (spoken_ids (event_view event.now)) IsCounted) }
         ensures known { IfOk result (λ spoken. (rules : RuleSet) (records : List Record) → IsTable self.now (history rules records) →
             (j : Outgoing) → Contains (law.outgoing_deliveries (history rules records)) j → kept.is_left_unsettled (history rules records) j ≡ true →
             is_some (law.answering j (event_view event.now)) ≡ true → is_among spoken j.number ≡ true) }
@@ -337,7 +338,7 @@ impl SentDeliveries {
     #[inline(never)]
     fn spoken_by(&self, alloc: Global, event: &Event) -> Result<NumberSet, AllocError>
         ensures stored { IfOk result (λ spoken. (n : ℕ) → is_among spoken n ≡ is_spoken_of self.now.groups (event_view event.now) n) }
-        ensures counted { OnOk result (IfSome (answered_id (event_view event.now)) (λ at. at.id < 2 ^ 32)) }
+        ensures counted { OnOk result (IfSome (spoken_ids (event_view event.now)) IsCounted) }
         ensures known { IfOk result (λ spoken. (rules : RuleSet) (records : List Record) → IsTable self.now (history rules records) →
             (j : Outgoing) → Contains (law.outgoing_deliveries (history rules records)) j → kept.is_left_unsettled (history rules records) j ≡ true →
             is_some (law.answering j (event_view event.now)) ≡ true → is_among spoken j.number ≡ true) }

@@ -1,17 +1,19 @@
 //! The deliveries to clients that an event may touch.
 
-ghost use Rattle.std.specs.Prelude.{◌≡◌, ◌<◌, ◌^◌, ℕ, ◌||◌, IfOk, IfSome, OnOk, map, nat_eq};
+ghost use Rattle.std.specs.Prelude.{◌≡◌, ℕ, ◌||◌, IfOk, IfSome, OnOk, length, map, nat_eq};
 ghost use Rattle.std.specs.List.{list_any};
-ghost use Rattle.amqp_perf.specs.View.{disposition_fields};
+ghost use Rattle.flow_counts.specs.Serial.{serial_add};
 ghost use Rattle.number_groups.specs.Numbers.{is_among};
-ghost use Rattle.number_groups.specs.Groups.{is_member};
+ghost use Rattle.number_groups.specs.Groups.{is_member, numbers};
 ghost use Rattle.trace_events.specs.Words.{is_some_and};
 ghost use Rattle.number_groups.specs.Ids.{same_id};
+ghost use Rattle.state_outgoing.specs.IdRanges.{IsCounted, are_few, some_place, span, stands_under};
 ghost use Rattle.state_outgoing.specs.SentTouched as law;
 ghost use Rattle.trace_events.specs.View.{event_view, link_view};
 
 use crate::groups::SentGroups;
-use amqp_perf::{Disposition, Role};
+use crate::id_range::IdRange;
+use amqp_perf::Role;
 use number_groups::{Groups, IdOn, NumberSet};
 use state_tables::{add_group, add_number};
 use std::alloc::{AllocError, Global};
@@ -41,73 +43,60 @@ fn part_number(event: &Event) -> Option<u64>
     }
 }
 
-/// A disposition of a consumer names one id.
-fn names_one(fields: &Disposition) -> bool
-    ensures { result ≡ law.names_one (disposition_fields fields.now) }
-{
-    match fields.role {
-        Role::Receiver => fields.last_id() == fields.first,
-        Role::Sender => false,
-    }
-}
-
-/// It names more.
-fn names_more(fields: &Disposition) -> bool
-    ensures { result ≡ law.names_more (disposition_fields fields.now) }
-{
-    match fields.role {
-        Role::Receiver => fields.last_id() != fields.first,
-        Role::Sender => false,
-    }
-}
-
-/// The one id that the event's consumer speaks of.
-fn answered_id(event: &Event) -> Option<IdOn>
-    ensures answered { result ≡ law.answered_id (event_view event.now) }
-    ensures counted { IfSome result (λ at. at.id < 2 ^ 32) }
+/// The ids of which the event's consumer speaks.
+fn spoken_ids(event: &Event) -> Option<IdRange>
+    ensures ids { result ≡ law.spoken_ids (event_view event.now) }
+    ensures counted { IfSome result IsCounted }
 {
     let fields = event.in_disposition()?;
-    if names_one(&fields) {
-        Some(IdOn {
+    match fields.role {
+        Role::Receiver => Some(IdRange {
             session: event.session?.number,
-            id: fields.first,
-        })
-    } else {
-        None
+            first: fields.first,
+            last: fields.last_id(),
+        }),
+        Role::Sender => None,
     }
 }
 
-/// The session of whose ids it names more.
-fn answered_session(event: &Event) -> Option<u64>
-    ensures { result ≡ law.answered_session (event_view event.now) }
+/// What stands under the ids in front of the last comes in.
+fn add_first_ids(
+    touched: &mut NumberSet,
+    groups: &Groups<IdOn>,
+    ids: IdRange,
+) -> Result<(), AllocError>
+    ensures { OnOk result ((n : ℕ) → is_among touched.new n
+        ≡ (is_among touched.old n || some_place (λ place. is_member same_id groups.now (record { session = ids.session; id = serial_add ids.first place }) n) (span ids))) }
 {
-    let fields = event.in_disposition()?;
-    if names_more(&fields) {
-        Some(event.session?.number)
-    } else {
-        None
+    for place in 0..ids.span() {
+        add_group_of_id(touched, groups, ids.id_at(place))?;
     }
+    Ok(())
+}
+
+/// What stands under any of the ids comes in.
+fn add_ids(touched: &mut NumberSet, groups: &Groups<IdOn>, ids: IdRange) -> Result<(), AllocError>
+    ensures { OnOk result ((n : ℕ) → is_among touched.new n ≡ (is_among touched.old n || stands_under groups.now ids n)) }
+{
+    add_first_ids(touched, groups, ids)?;
+    add_group_of_id(touched, groups, ids.last_id())
 }
 
 impl SentGroups {
-    /// What its consumer speaks of comes in, where it names one id.
-    fn add_answered(&self, touched: &mut NumberSet, id: Option<IdOn>) -> Result<(), AllocError>
-        ensures { OnOk result ((n : ℕ) → is_among touched.new n
-            ≡ (is_among touched.old n || is_some_and id (λ at. is_member same_id self.now.of_id at n))) }
+    /// The ids are looked up one by one.
+    fn are_few(&self, ids: IdRange) -> bool
+        ensures { result ≡ are_few (span ids) (length (numbers nat_eq self.now.of_session ids.session)) }
     {
-        match id {
-            Some(at) => add_group_of_id(touched, &self.of_id, at),
-            None => Ok(()),
-        }
+        ids.span() == 0 || (ids.span() as usize) < self.of_session.count(&ids.session)
     }
 
-    /// What stands on its session, where it names more.
-    fn add_session(&self, touched: &mut NumberSet, session: Option<u64>) -> Result<(), AllocError>
-        ensures { OnOk result ((n : ℕ) → is_among touched.new n
-            ≡ (is_among touched.old n || is_some_and session (λ number. is_member nat_eq self.now.of_session number n))) }
+    /// What a consumer speaks of comes in, by these ids.
+    fn add_spoken(&self, touched: &mut NumberSet, ids: Option<IdRange>) -> Result<(), AllocError>
+        ensures { OnOk result ((n : ℕ) → is_among touched.new n ≡ (is_among touched.old n || is_some_and ids (λ those. law.finds self.now those n))) }
     {
-        match session {
-            Some(number) => add_group(touched, &self.of_session, number),
+        match ids {
+            Some(ids) if self.are_few(ids) => add_ids(touched, &self.of_id, ids),
+            Some(ids) => add_group(touched, &self.of_session, ids.session),
             None => Ok(()),
         }
     }
@@ -119,12 +108,10 @@ impl SentGroups {
     /// Memory was refused.
     pub(crate) fn spoken_of(&self, alloc: Global, event: &Event) -> Result<NumberSet, AllocError>
         ensures spoken { IfOk result (λ spoken. (n : ℕ) → is_among spoken n ≡ law.is_spoken_of self.now (event_view event.now) n) }
-        ensures counted { OnOk result (IfSome (law.answered_id (event_view event.now)) (λ at. at.id < 2 ^ 32)) }
+        ensures counted { OnOk result (IfSome (law.spoken_ids (event_view event.now)) IsCounted) }
     {
         let mut spoken = NumberSet::new(alloc);
-        let id = answered_id(event);
-        self.add_answered(&mut spoken, id)?;
-        self.add_session(&mut spoken, answered_session(event))?;
+        self.add_spoken(&mut spoken, spoken_ids(event))?;
         Ok(spoken)
     }
 
@@ -151,14 +138,12 @@ impl SentGroups {
         event: &Event,
     ) -> Result<NumberSet, AllocError>
         ensures touched { IfOk result (λ touched. (n : ℕ) → is_among touched n ≡ law.may_touch self.now (map link_view ended.now) (event_view event.now) n) }
-        ensures counted { OnOk result (IfSome (law.answered_id (event_view event.now)) (λ at. at.id < 2 ^ 32)) }
+        ensures counted { OnOk result (IfSome (law.spoken_ids (event_view event.now)) IsCounted) }
     {
         let mut touched = NumberSet::new(alloc);
-        let id = answered_id(event);
         add_number(&mut touched, part_number(event))?;
         add_number(&mut touched, event.settled)?;
-        self.add_answered(&mut touched, id)?;
-        self.add_session(&mut touched, answered_session(event))?;
+        self.add_spoken(&mut touched, spoken_ids(event))?;
         self.add_all_of(&mut touched, ended)?;
         Ok(touched)
     }
