@@ -40,7 +40,8 @@ pub use frame_counts::FrameCounts;
 pub use known::{ChannelKey, Held, Known, Life, Link, Sent, Session};
 pub use lines::lines_meant;
 pub use measured::{
-    BEGIN, DETACH, OPEN, attaching, attaching_settled, crediting, put_accepted, put_transfer,
+    BEGIN, DETACH, OPEN, attaching, attaching_settled, crediting, put_accepted, put_all_accepted,
+    put_transfer,
 };
 pub use picks::{Picks, scan_picks};
 pub use records::{Names, Telling};

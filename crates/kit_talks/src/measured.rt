@@ -45,6 +45,16 @@ pub fn put_accepted(out: &mut Vec<u8>, id: u32) -> Result<(), AllocError> {
     ])
 }
 
+/// Puts a disposition there that accepts all deliveries from the first id to the last, and settles them.
+pub fn put_all_accepted(out: &mut Vec<u8>, first: u32, last: u32) -> Result<(), AllocError> {
+    let ([a, b, c, d], [e, f, g, h]) = (first.to_be_bytes(), last.to_be_bytes());
+    out.clear();
+    out.extend_from_slice(&[
+        0, 0, 0, 30, 2, 0, 0, 0, 0, 0x53, 0x15, 0xC0, 17, 5, 0x41, 0x70, a, b, c, d, 0x70, e, f, g,
+        h, 0x41, 0x00, 0x53, 0x24, 0x45,
+    ])
+}
+
 /// A flow that gives a link as much credit as there may be.
 pub fn crediting(alloc: Global, handle: u32) -> Result<Vec<u8>, AllocError> {
     let [a, b, c, d] = handle.to_be_bytes();

@@ -29,7 +29,7 @@ struct Row<'a> {
 }
 
 /// A small row of each shape.
-const ROWS: [Row<'static>; 6] = [
+const ROWS: [Row<'static>; 7] = [
     Row {
         name: "links",
         size: 2,
@@ -39,6 +39,11 @@ const ROWS: [Row<'static>; 6] = [
         name: "unsettled",
         size: 2,
         count: 3,
+    },
+    Row {
+        name: "ranges",
+        size: 2,
+        count: 10,
     },
     Row {
         name: "waiting",

@@ -2,7 +2,8 @@
 
 use flow_counts::MAX_FRAME_SIZE;
 use kit_talks::{
-    BEGIN, DETACH, OPEN, attaching, attaching_settled, crediting, put_accepted, put_transfer,
+    BEGIN, DETACH, OPEN, attaching, attaching_settled, crediting, put_accepted, put_all_accepted,
+    put_transfer,
 };
 use route_core::Core;
 use route_items::Item;
@@ -17,6 +18,8 @@ pub(crate) enum Shape {
     Links,
     /// Deliveries of others that are sent and not settled.
     Unsettled,
+    /// Deliveries on the consumer's own session that it has not decided; it accepts ten messages at a time, by one frame.
+    Ranges,
     /// Deliveries of others that wait for credit.
     Waiting,
     /// Each message goes, settled, to so many consumers.
@@ -49,6 +52,7 @@ impl Shape {
         let shape = match name {
             "links" => Shape::Links,
             "unsettled" => Shape::Unsettled,
+            "ranges" => Shape::Ranges,
             "waiting" => Shape::Waiting,
             "copies" => Shape::Copies,
             "deciding" => Shape::Deciding,
@@ -65,6 +69,7 @@ impl Shape {
         match self {
             Shape::Links => other_links(alloc, core, size)?,
             Shape::Unsettled => other_messages(alloc, core, size, true)?,
+            Shape::Ranges => undecided(alloc, core, size)?,
             Shape::Waiting => other_messages(alloc, core, size, false)?,
             Shape::Copies => return copied(alloc, core, size, true),
             Shape::Deciding => return copied(alloc, core, size, false),
@@ -113,6 +118,7 @@ impl Shape {
         match self {
             Shape::Copies | Shape::Ending => Ok(()),
             Shape::Deciding => accept_copies(core, frame, size, id),
+            Shape::Ranges => accept_tens(core, frame, size, id),
             Shape::Links | Shape::Unsettled | Shape::Waiting => accept(core, frame, CONSUMER, id),
         }
     }
@@ -140,6 +146,14 @@ fn other_messages(alloc: Global, core: &mut Core, count: u32, has_credit: bool) 
     if has_credit {
         credit(alloc, core, OTHER_CONSUMER, 0)?;
     }
+    send_others(core, &mut Vec::new(alloc), count)
+}
+
+/// So many messages of other producers, which the consumer that is measured gets on another link, and does not decide.
+fn undecided(alloc: Global, core: &mut Core, count: u32) -> io::Result<()> {
+    connect(core, OTHER_PRODUCER)?;
+    consume(alloc, core, CONSUMER, 1, "other")?;
+    credit(alloc, core, CONSUMER, 1)?;
     send_others(core, &mut Vec::new(alloc), count)
 }
 
@@ -185,6 +199,17 @@ fn accept_copies(core: &mut Core, frame: &mut Vec<u8>, count: u32, id: u32) -> i
         accept(core, frame, OTHERS.wrapping_add(further), copy)?;
     }
     Ok(())
+}
+
+/// The consumer accepts ten messages by one frame, once the last of them came; their ids follow those of the deliveries that it
+/// does not decide. It writes over the frame.
+fn accept_tens(core: &mut Core, frame: &mut Vec<u8>, undecided: u32, id: u32) -> io::Result<()> {
+    if id % 10 != 9 {
+        return Ok(());
+    }
+    let last = undecided.wrapping_add(id);
+    put_all_accepted(frame, last.wrapping_sub(9), last)?;
+    send(core, CONSUMER, frame.as_slice())
 }
 
 /// The client of a connection accepts the delivery of this id, and settles it. It writes over the frame.
