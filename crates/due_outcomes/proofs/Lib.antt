@@ -6,6 +6,7 @@ mod LostConsumers
 mod LastVerdicts
 mod ProducerLinks
 mod Closings
+mod LastingConsumers
 mod ParkedSteps
 mod SpokenCarried
 mod UntoldFollowed

@@ -1,5 +1,5 @@
 -- A list that takes an event, part by part, follows it.
-use Rattle.std.proofs.Common.{◌≡◌, ap, ◌∙◌, ℕ, Bool, true, false, ◌&&◌, ◌||◌, List, ◌∷◌, Option, Some, IfSome, is_some, nat_eq, ◌==◌}
+use Rattle.std.proofs.Common.{◌≡◌, refl, sym, ap, ◌∙◌, ℕ, Bool, true, false, ◌&&◌, ◌||◌, not, List, ◌∷◌, Option, Some, IfSome, is_some, nat_eq, ◌==◌}
 use Rattle.std.specs.Prelude.{Contains}
 use Rattle.std.specs.List.{list_any}
 use Rattle.number_groups.specs.Groups.{is_member}
@@ -9,7 +9,7 @@ use Rattle.number_groups.specs.declared.octet_groups.OctetGroups.{OctetGroups}
 use Rattle.capture_form.specs.Rules.{RuleSet}
 use Rattle.trace_events.specs.Words.{is_number, is_some_and}
 use Rattle.trace_events.specs.Event.{Event, Link, Incoming, Outgoing}
-use Rattle.trace_events.specs.Address.{has_multicast}
+use Rattle.trace_events.specs.Address.{has_consumer, has_multicast}
 use Rattle.trace_events.specs.Link.{is_consumer}
 use Rattle.trace_events.specs.Incoming.{address_of, completed_by, incoming_at, incoming_deliveries}
 use Rattle.trace_events.specs.Outgoing.{answering, names, outgoing_begun, outgoing_deliveries}
@@ -40,7 +40,8 @@ module _ (rules : RuleSet) (e : Event) (past : List Event) (are : AreJudged rule
     (add6 : (n : ℕ) → has c6 n ≡ (has c5 n || list_any (λ l. is_member nat_eq u2.carried l.number n) ended))
     (add7 : (n : ℕ) → has c7 n ≡ (has c6 n || list_any (λ l. is_member nat_eq on_link l.number n) ended))
     (awaited7 : (link n : ℕ) → is_member nat_eq on_link link n ≡ awaits_at rules past link n)
-    (add8 : (n : ℕ) → has c8 n ≡ (has c7 n || list_any (λ l. is_consumer l && octets.is_member waiting l.address n) ended))
+    (keeps : List ℕ → Bool) (keeps8 : (address : List ℕ) → keeps address ≡ true → has_consumer address (e ∷ past) ≡ true)
+    (add8 : (n : ℕ) → has c8 n ≡ (has c7 n || list_any (λ l. is_consumer l && not (keeps l.address) && octets.is_member waiting l.address n) ended))
     (waits8 : (d : Incoming) → incoming_at d.number past ≡ Some d → is_waiting rules d past ≡ true → octets.is_member waiting (address_of d past) d.number ≡ true)
     (over : AreEnded e past ended) where
   -- the list, with all candidates
@@ -48,7 +49,7 @@ module _ (rules : RuleSet) (e : Event) (past : List Event) (are : AreJudged rule
   Later = record u2 { candidates = c8 }
 
   from7 : (n : ℕ) → has c7 n ≡ true → has c8 n ≡ true
-  from7 n is = add8 n ∙ or-first (has c7 n) (list_any (λ l. is_consumer l && octets.is_member waiting l.address n) ended) is
+  from7 n is = add8 n ∙ or-first (has c7 n) (list_any (λ l. is_consumer l && not (keeps l.address) && octets.is_member waiting l.address n) ended) is
 
   from6 : (n : ℕ) → has c6 n ≡ true → has c8 n ≡ true
   from6 n is = from7 n (add7 n ∙ or-first (has c6 n) (list_any (λ l. is_member nat_eq on_link l.number n) ended) is)
@@ -64,6 +65,10 @@ module _ (rules : RuleSet) (e : Event) (past : List Event) (are : AreJudged rule
 
   both : (a b : Bool) → a ≡ true → b ≡ true → a && b ≡ true
   both a b is so = ap (λ x. x && b) is ∙ so
+
+  not-kept : (b : Bool) → (b ≡ true → true ≡ false) → not b ≡ true
+  not-kept false never = refl
+  not-kept true never = sym (never refl)
 
   begun-at : (d : Incoming) → Contains (incoming_deliveries past) d → incoming_at d.number past ≡ Some d
   begun-at d there = (all_contained (IsKept past) (incoming_deliveries past) d (each_delivery (IsKept past) past (judged-kept rules past are.1).each) there).at
@@ -81,7 +86,9 @@ module _ (rules : RuleSet) (e : Event) (past : List Event) (are : AreJudged rule
     awaited = λ l n lives ends awaits. from7 n (add7 n ∙ or-last (has c6 n) (list_any (λ m. is_member nat_eq on_link m.number n) ended)
         (contained-any (λ (m : Link). is_member nat_eq on_link m.number n) ended l ((over l).1 (lives, ends)) (awaited7 l.number n ∙ awaits)));
     lost = λ d there so had none. let l = lost-link rules e past are (address_of d past) had none in
-        add8 d.number ∙ or-last (has c7 d.number) (list_any (λ m. is_consumer m && octets.is_member waiting m.address d.number) ended)
-        (contained-any (λ (m : Link). is_consumer m && octets.is_member waiting m.address d.number) ended l.link ((over l.link).1 (l.lives, l.ends))
-        (both (is_consumer l.link) (octets.is_member waiting l.link.address d.number) l.consumes (ap (λ a. octets.is_member waiting a d.number) l.at ∙ waits8 d (begun-at d there) so)));
+        add8 d.number ∙ or-last (has c7 d.number) (list_any (λ m. is_consumer m && not (keeps m.address) && octets.is_member waiting m.address d.number) ended)
+        (contained-any (λ (m : Link). is_consumer m && not (keeps m.address) && octets.is_member waiting m.address d.number) ended l.link ((over l.link).1 (l.lives, l.ends))
+        (both (is_consumer l.link && not (keeps l.link.address)) (octets.is_member waiting l.link.address d.number)
+        (both (is_consumer l.link) (not (keeps l.link.address)) l.consumes (not-kept (keeps l.link.address) (λ is. sym (keeps8 l.link.address is) ∙ (ap (λ a. has_consumer a (e ∷ past)) l.at ∙ none))))
+        (ap (λ a. octets.is_member waiting a d.number) l.at ∙ waits8 d (begun-at d there) so)));
   }

@@ -10,7 +10,6 @@ ghost use Rattle.trace_events.specs.Address.{has_multicast};
 ghost use Rattle.trace_events.specs.Event as events;
 ghost use Rattle.trace_events.specs.History.{history};
 ghost use Rattle.trace_events.specs.Incoming.{completed_by};
-ghost use Rattle.trace_events.specs.Link.{is_consumer};
 ghost use Rattle.trace_events.specs.Outgoing.{names, outgoing_begun};
 ghost use Rattle.trace_events.specs.Words.{is_number, is_some_and};
 ghost use Rattle.trace_judge.specs.Told.{told_view};
@@ -24,7 +23,7 @@ ghost use Rattle.number_groups.specs.Ascending.{count_of, has};
 ghost use Rattle.state_answers.specs.Tables.{TellsOf};
 ghost use Rattle.state_answers.specs.Effects.{AreEffects};
 ghost use Rattle.due_outcomes.specs.DueOutcomes.{IsDueOutcome};
-ghost use Rattle.due_outcomes.specs.Untold.{HasUntold, IsOn, KeepsOn};
+ghost use Rattle.due_outcomes.specs.Untold.{HasUntold, IsOn, KeepsOn, has_lasting_consumer, is_lasting, is_left};
 
 use crate::outcome::{DueOutcome, outcome_of};
 use capture_form::RuleSet;
@@ -45,28 +44,59 @@ pub struct Untold {
     carried: Groups<u64>,
 }
 
-/// What waits at the address of a consumer's link becomes a candidate.
-fn add_left(candidates: &mut Ascending, groups: &OctetGroups, link: &Link) -> Result<(), AllocError>
-    ensures { OnOk result ((n : ℕ) → has candidates.new n
-        ≡ (has candidates.old n || is_consumer (link_view link.now) && octets.is_member groups.now (link_view link.now).address n)) }
+/// The link of this number is a consumer's of the address, and lives on behind the event.
+fn is_lasting(before: &LentTables<'_>, event: &Event, address: &[u8], number: Option<u64>) -> bool
+    ensures { result ≡ is_lasting before.now.consumer_links.now (event_view event.now) address.now number }
 {
-    if link.is_consumer() {
+    let Some(number) = number else {
+        return false;
+    };
+    match before.consumer_links.get(number) {
+        Some(link) => link.address == address && !event.ends_link(&link),
+        None => false,
+    }
+}
+
+/// The address keeps a consumer: one of its first two lives on behind the event. Where it ends both, others may stay.
+fn has_lasting_consumer(before: &LentTables<'_>, event: &Event, address: &[u8]) -> bool
+    ensures { result ≡ has_lasting_consumer before.now.consumers.now before.now.consumer_links.now (event_view event.now) address.now }
+{
+    is_lasting(before, event, address, before.consumers.get(address, 0))
+        || is_lasting(before, event, address, before.consumers.get(address, 1))
+}
+
+/// What waits at the address of a consumer's link becomes a candidate, unless it keeps a consumer.
+fn add_left(
+    candidates: &mut Ascending,
+    groups: &OctetGroups,
+    before: &LentTables<'_>,
+    event: &Event,
+    link: &Link,
+) -> Result<(), AllocError>
+    ensures { OnOk result ((n : ℕ) → has candidates.new n
+        ≡ (has candidates.old n || is_left before.now.consumers.now before.now.consumer_links.now (event_view event.now) (link_view link.now)
+        && octets.is_member groups.now (link_view link.now).address n)) }
+{
+    if link.is_consumer() && !has_lasting_consumer(before, event, link.address) {
         add_octet_group(candidates, groups, link.address)?;
     }
     Ok(())
 }
 
-/// What waits at the addresses of these links' consumers becomes a candidate.
+/// What waits at the addresses of these links becomes a candidate, where it may have no consumer any more.
 fn add_waiting(
     candidates: &mut Ascending,
     groups: &OctetGroups,
+    before: &LentTables<'_>,
+    event: &Event,
     ended: &[Link],
 ) -> Result<(), AllocError>
     ensures { OnOk result ((n : ℕ) → has candidates.new n
-        ≡ (has candidates.old n || list_any (λ l. is_consumer (link_view l) && octets.is_member groups.now (link_view l).address n) ended.now)) }
+        ≡ (has candidates.old n || list_any (λ l. is_left before.now.consumers.now before.now.consumer_links.now (event_view event.now) (link_view l)
+        && octets.is_member groups.now (link_view l).address n) ended.now)) }
 {
     for link in ended {
-        add_left(candidates, groups, link)?;
+        add_left(candidates, groups, before, event, link)?;
     }
     Ok(())
 }
@@ -125,7 +155,7 @@ impl Untold {
 
     /// The event follows, with these effects; `before` are the tables without it. It takes the time of the deliveries of which a
     /// consumer speaks with it, of those that went over the links that it ends or have a copy due there, and of those that wait at
-    /// the addresses of these.
+    /// the addresses of these, where it ends both the first two of its consumers or there are no more.
     ///
     /// # Errors
     ///
@@ -148,7 +178,13 @@ impl Untold {
         let ended = effects.ended();
         add_of_links(&mut self.candidates, &self.carried, ended)?;
         add_of_links(&mut self.candidates, before.verdicts.on_link(), ended)?;
-        add_waiting(&mut self.candidates, before.deliveries.waiting(), ended)?;
+        add_waiting(
+            &mut self.candidates,
+            before.deliveries.waiting(),
+            before,
+            event,
+            ended,
+        )?;
         Ok(())
     }
 
