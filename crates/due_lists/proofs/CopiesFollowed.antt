@@ -13,6 +13,7 @@ use Rattle.trace_events.specs.Credit.{link_credit, link_event, link_events}
 use Rattle.trace_events.specs.Ends.{ends_link}
 use Rattle.trace_events.specs.Incoming.{completed_by, completes, completion}
 use Rattle.trace_events.specs.Link.{IsLiveLink}
+use Rattle.trace_events.specs.Session.{IsLiveOn}
 use Rattle.trace_events.specs.Outgoing.{in_progress}
 use Rattle.trace_events.specs.Window.{session_window}
 use Rattle.trace_events.proofs.Along.{and_first, and_last}
@@ -27,7 +28,7 @@ use Rattle.state_tables.specs.Addressed.{IsAddressed}
 use Rattle.state_tables.specs.ConsumerLinks.{has_link, consumer_at}
 use Rattle.state_tables.specs.Copies.{AreReceivers, names_at}
 use Rattle.state_tables.specs.declared.copies.Receiver.{Receiver}
-use Rattle.due_lists.specs.Standing.{grants_window}
+use Rattle.due_lists.specs.Standing.{grants_window, has_window}
 use Rattle.due_lists.proofs.DrainingLinks.{on-link}
 use Rattle.due_lists.proofs.PartsFollowed.{not-ended}
 use Rattle.due_lists.proofs.StandingParts.{window-before}
@@ -78,7 +79,7 @@ module _ (rules : RuleSet) (e : Event) (past : List Event) (are : AreJudged rule
     (own : (link c n : ℕ) → is_some_and e.link (λ l. l.number == link) ≡ true → copy_on l₄ link c ≡ Some n → Waits l₄ link)
     (carrying : (link c n : ℕ) → is_some_and e.outgoing (λ j. j.link.number == link) ≡ true → copy_on l₄ link c ≡ Some n → Waits l₄ link)
     (kept₄ : IsKept l₃ l₄)
-    (woken : (s : Session) → e.session ≡ Some s → grants_window e ≡ true → (link c n : ℕ) → stands l₄ s.number link ≡ true → copy_on new link c ≡ Some n → Waits new link)
+    (woken : (s : Session) → e.session ≡ Some s → grants_window e ≡ true → IsLiveOn s past → has_window s past ≡ false → (link c n : ℕ) → stands l₄ s.number link ≡ true → copy_on new link c ≡ Some n → Waits new link)
     (kept₅ : IsKept l₄ new)
     (has : Have rules old past) where
   waits-later : (n : ℕ) → Waits l₄ n → Waits new n
@@ -180,9 +181,14 @@ module _ (rules : RuleSet) (e : Event) (past : List Event) (are : AreJudged rule
             sym (ap (λ b. nat_lt 0 (counts.credit l.our_first_count (cons_option (if b then link_event e e.moment else None) (link_events l past)))) off) ∙ credit in
             let idle_was : is_none (in_progress l past) ≡ true =
             sym (ap (λ b. is_none (if b then (if is_some_and (out_transfer e) (λ fields. flag fields.more) then e.outgoing else None) else in_progress l past)) apart) ∙ idle in
-            elim (window-before rules e past are l.session h.live.0 window) [
-              | inl flow ↦ woken l.session flow.0 flow.1 l.number was_below.0 d.number stands₄ (kept₅.listed l.number was_below.0 ∙ there₄)
-              | inr had ↦ waits-on off (all-three (nat_lt 0 (link_credit l past)) (nat_lt 0 (session_window l.session past)) (is_none (in_progress l past)) credit_was had idle_was)
+            by-before (has_window l.session past) refl window
+            (λ had. waits-on off (all-three (nat_lt 0 (link_credit l past)) (nat_lt 0 (session_window l.session past)) (is_none (in_progress l past)) credit_was had idle_was))
+          where
+            by-before : (b : Bool) → has_window l.session past ≡ b → has_window l.session (e ∷ past) ≡ true → (has_window l.session past ≡ true → Waits new l.number) → Waits new l.number
+            by-before true had window waited = waited had
+            by-before false shut window waited = elim (window-before rules e past are l.session h.live.0 window) [
+              | inl flow ↦ woken l.session flow.0 flow.1 before.live.0 shut l.number was_below.0 d.number stands₄ (kept₅.listed l.number was_below.0 ∙ there₄)
+              | inr had ↦ waited had
             ]
 
         by-part : is_on_link l e ≡ false → (b : Bool) → is_part_on l e ≡ b → Waits new l.number

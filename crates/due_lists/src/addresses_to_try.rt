@@ -219,7 +219,7 @@ fn freed<'a>(event: &Event<'a, '_, '_>) -> Option<&'a [u8]>
 }
 
 /// The session to which a flow of the client may give window, where it had none.
-fn granted(event: &Event, before: &LentTables<'_>) -> Option<u64>
+pub(crate) fn granted(event: &Event, before: &LentTables<'_>) -> Option<u64>
     ensures { (rules : RuleSet) (past : Events) → TellsOf rules before.now past → (s : Session) → (event_view event.now).session ≡ Some s →
         grants_window (event_view event.now) ≡ true → IsLiveOn s past → has_window s past ≡ false → result ≡ Some s.number }
 {

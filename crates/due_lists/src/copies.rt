@@ -84,7 +84,7 @@ impl UnsentCopies {
         self.unsent
             .come(event, &receivers, before.consumer_links, &self.copies)?;
         self.unsent.touch(event)?;
-        self.unsent.wake(event)?;
+        self.unsent.wake(event, before)?;
         Ok(())
     }
 

@@ -54,7 +54,7 @@ pub use begin::DueBegin;
 pub use copies::UnsentCopies;
 pub use credits::Credits;
 pub use drains::Drains;
-pub use parts::{DeliveriesInProgress, DuePart, granted_session};
+pub use parts::{DeliveriesInProgress, DuePart};
 pub use picks::Picks;
 pub use queues::Queues;
 pub use waiting::Waiting;

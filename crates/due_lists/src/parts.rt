@@ -144,7 +144,7 @@ fn goes_on(event: &Event) -> bool
 }
 
 /// The session to which the event may give window.
-pub fn granted_session(event: &Event) -> Option<u64>
+fn granted_session(event: &Event) -> Option<u64>
     ensures { result ≡ (if grants_window (event_view event.now) then option_map (λ (s : Session). s.number) (event_view event.now).session else None) }
 {
     match event.moment.window_event() {

@@ -11,17 +11,20 @@ ghost use Rattle.trace_events.specs.Due as due;
 ghost use Rattle.trace_events.specs.History.{history};
 ghost use Rattle.trace_events.specs.Incoming.{completes, incoming_at};
 ghost use Rattle.trace_events.specs.Link.{IsLiveLink};
-ghost use Rattle.trace_events.specs.View.{event_view, incoming_view};
+ghost use Rattle.trace_events.specs.Session.{IsLiveOn};
+ghost use Rattle.trace_events.specs.View.{Events, event_view, incoming_view};
+ghost use Rattle.state_answers.specs.Tables.{TellsOf};
 ghost use Rattle.state_tables.specs.EndedLinks.{views};
 ghost use Rattle.state_tables.specs.ConsumerLinks.{has_link, link_in};
 ghost use Rattle.state_tables.specs.Copies.{AreCopies, names_at};
-ghost use Rattle.due_lists.specs.Standing.{grants_window};
+ghost use Rattle.due_lists.specs.Standing.{grants_window, has_window};
 ghost use Rattle.due_lists.specs.UnsentNumbers.{AreWith, IsIn, IsKept, IsKeptBut, IsOfBoth, Stays, Waits, copy_on, receives, stands, waits};
 
+use crate::addresses_to_try::granted;
 use crate::by_link::ByLink;
 use crate::copy_candidates::CopyCandidates;
-use crate::granted_session;
 use number_groups::Groups;
+use state_answers::LentTables;
 use state_tables::{ConsumerLinks, Copies, Receiver, named_on_link};
 use std::alloc::{AllocError, Global};
 use trace_events::{Event, Incoming, Link};
@@ -193,17 +196,19 @@ impl UnsentNumbers {
         Ok(())
     }
 
-    /// Where the event gives its session window, all links there on which copies may be unsent may be sent a delivery.
+    /// Where the event gives window to its session, which had none, all links there on which copies may be unsent may be sent a
+    /// delivery; `before` are the tables without the event.
     ///
     /// # Errors
     ///
     /// Memory was refused; then a link may be missing.
-    pub fn wake(&mut self, event: &Event) -> Result<(), AllocError>
-        ensures woken { OnOk result ((s : Session) → (event_view event.now).session ≡ Some s → grants_window (event_view event.now) ≡ true →
+    pub fn wake(&mut self, event: &Event, before: &LentTables<'_>) -> Result<(), AllocError>
+        ensures woken { OnOk result ((rules : RuleSet) (past : Events) → TellsOf rules before.now past →
+            (s : Session) → (event_view event.now).session ≡ Some s → grants_window (event_view event.now) ≡ true → IsLiveOn s past → has_window s past ≡ false →
             (link c n : ℕ) → stands self.old s.number link ≡ true → copy_on self.new link c ≡ Some n → Waits self.new link) }
         ensures kept { OnOk result (IsKept self.old self.new) }
     {
-        match granted_session(event) {
+        match granted(event, before) {
             Some(session) => self.touch_session(session),
             None => Ok(()),
         }

@@ -41,5 +41,5 @@ returns c = λ records r next addressed tables does first.
     c.end.ensures.listed c.end.ensures.only c.end.ensures.stood c.end.ensures.waited
     c.send.ensures.listed c.send.ensures.only c.send.ensures.stood c.send.ensures.waited
     came c.in_ok-come.ensures.only c.in_ok-come.ensures.kept c.in_ok-touch.ensures.own c.in_ok-touch.ensures.carrying c.in_ok-touch.ensures.kept
-    c.in_ok-wake.ensures.woken c.in_ok-wake.ensures.kept (have-of rules c.args.self.now past first) in
+    (c.in_ok-wake.ensures.woken rules past tables) c.in_ok-wake.ensures.kept (have-of rules c.args.self.now past first) in
     record { are = copies; ranked = have.ranked; listed = have.listed; stands = have.stands; waits = have.waits }
