@@ -51,7 +51,7 @@ impl<'t> EventEffects<'t> {
     }
 
     /// Numbers of deliveries to clients, each once, among which are all that are unsettled and of which the event's consumer
-    /// speaks. There may be others: where it names more than one id, these are all that are unsettled on its session.
+    /// speaks. There may be others: where it names more ids than are unsettled on its session, these are all of that.
     pub fn spoken(&self) -> &[u64]
         ensures { result.now ≡ self.now.spoken.items }
     {

@@ -1,5 +1,6 @@
--- The ids of which a consumer's disposition speaks, and how those that stand under one of them are found (part 2 of the standard,
--- section 2.7.6).
+-- The ids that a consumer's disposition names, and how those that stand under one of them are found (part 2 of the standard, section
+-- 2.7.6). A range whose last id stands half of all ids or more behind its first covers none (RFC 1982); what is found for it is more
+-- than it speaks of.
 use Rattle.std.specs.Prelude.{ℕ, zero, suc, Bool, false, ◌||◌, ◌<◌, ◌^◌, ◌==◌, nat_lt}
 use Rattle.flow_counts.specs.Serial.{serial_add, serial_sub}
 use Rattle.number_groups.specs.Groups.{is_member}
@@ -27,6 +28,7 @@ stands_under of_id ids n =
     some_place (λ place. is_member same_id of_id (record { session = ids.session; id = serial_add ids.first place }) n) (span ids)
     || is_member same_id of_id (record { session = ids.session; id = ids.last }) n
 
--- they are looked up one by one: where there is one, or fewer than so many deliveries
+-- they are looked up one by one: where there is one, or no more of them than deliveries, whose last stands so many places behind the
+-- first
 abbrev pub are_few : ℕ → ℕ → Bool
 are_few places deliveries = (places == 0) || nat_lt places deliveries
