@@ -8,6 +8,7 @@ use Rattle.trace_events.specs.Event.{Event, Link, Incoming, Outgoing}
 use Rattle.trace_events.specs.Ends.{ends_link}
 use Rattle.trace_events.specs.Incoming.{address_of, completed_by, completes}
 use Rattle.trace_events.specs.Link.{IsLiveLink, is_consumer, opened_consumer}
+use Rattle.trace_events.specs.Waiting.{has_waiting}
 use Rattle.trace_events.proofs.IncomingSteps.{address_of-same}
 use Rattle.trace_events.proofs.Judged.{AreJudged}
 use Rattle.trace_events.specs.Clauses.{first_broken}
@@ -17,23 +18,25 @@ use Rattle.due_lists.proofs.LiveOnes.{link-before}
 use Rattle.due_lists.proofs.PartsDue.{consumer-found}
 use Rattle.due_lists.proofs.PartsFollowed.{not-ended}
 use Rattle.due_lists.specs.Waking.{MayBegin, IsGranted}
-use Rattle.due_lists.proofs.Woken.{completed-now, might-before}
+use Rattle.due_lists.proofs.Woken.{IsWoken, completed-now, might-before, other-before}
 
 -- each live link of a consumer stands with its session, and an address at which a delivery may begin is one to try
 pub record Have (rules : RuleSet) (stand : ℕ → ℕ → Bool) (wake : List ℕ → Bool) (past : List Event) : Type 0 where
   pub stands : (l : Link) → IsLiveLink l past → is_consumer l ≡ true → stand l.session.number l.number ≡ true
   pub to_try : (d : Incoming) (l : Link) → MayBegin rules past d l → wake (address_of d past) ≡ true
 
--- the address of what the event completes is one to try
-pub completed-wakes : (to_try : List ℕ → Bool) (now : List Event) (address : List ℕ) (o : Option Incoming) → IfSome o (λ d. address_of d now ≡ address)
-    → ((d : Incoming) → o ≡ Some d → to_try address ≡ true) → (d : Incoming) → o ≡ Some d → to_try (address_of d now) ≡ true
-completed-wakes to_try now address o own wakes d is =
-    ap to_try (subst (λ (p : Option Incoming). IfSome p (λ x. address_of x now ≡ address)) is own) ∙ wakes d is
+-- the address of what the event completes is one to try, where none waited there
+pub completed-wakes : (to_try waits : List ℕ → Bool) (now : List Event) (address : List ℕ) (o : Option Incoming) → IfSome o (λ d. address_of d now ≡ address)
+    → ((d : Incoming) → o ≡ Some d → waits address ≡ false → to_try address ≡ true)
+    → (d : Incoming) → o ≡ Some d → waits (address_of d now) ≡ false → to_try (address_of d now) ≡ true
+completed-wakes to_try waits now address o own wakes d is none =
+    let same : address_of d now ≡ address = subst (λ (p : Option Incoming). IfSome p (λ x. address_of x now ≡ address)) is own in
+    ap to_try same ∙ wakes d is (sym (ap waits same) ∙ none)
 
 module _ (rules : RuleSet) (e : Event) (past : List Event) (are : AreJudged rules (e ∷ past)) (lawful : first_broken rules (e ∷ past) ≡ None)
     (ended : List Link) (all : (l : Link) → Contains ended l ↔ IsLiveLink l past × (ends_link l e ≡ true))
     (stood stand₁ stand : ℕ → ℕ → Bool) (was_to_try to_try : List ℕ → Bool)
-    (completed : (d : Incoming) → completed_by e ≡ Some d → to_try (address_of d (e ∷ past)) ≡ true)
+    (completed : (d : Incoming) → completed_by e ≡ Some d → has_waiting rules (address_of d (e ∷ past)) past ≡ false → to_try (address_of d (e ∷ past)) ≡ true)
     (credited : (l : Link) → e.link ≡ Some l → is_consumer l ≡ true → grants_window e ≡ true → to_try l.address ≡ true)
     (freed : (j : Outgoing) → e.outgoing ≡ Some j → goes_on e ≡ false → to_try j.link.address ≡ true)
     (granted : (l : Link) → IsGranted e past l → stood l.session.number l.number ≡ true → consumer_at l.number past ≡ Some l → to_try l.address ≡ true)
@@ -52,16 +55,27 @@ module _ (rules : RuleSet) (e : Event) (past : List Event) (are : AreJudged rule
     here : to_try l.address ≡ true → to_try (address_of d (e ∷ past)) ≡ true
     here is = ap to_try (sym h.address) ∙ is
 
-    to_try-by : (b : Bool) → completes d e ≡ b → to_try (address_of d (e ∷ past)) ≡ true
-    to_try-by true now = completed d (completed-now rules e past are lawful d l h now)
-    to_try-by false none = elim (might-before rules e past are lawful d l h none) [
-      | inl woken ↦ elim woken [
-        | inl flow ↦ here (credited l flow.link h.consumer flow.flow)
-        | inr more ↦ elim more [
-          | inl part ↦ here (ap (λ (m : Link). to_try m.address) (sym part.link) ∙ freed part.delivery part.is part.last)
-          | inr window ↦ here (granted l window (has.stands l window.live h.consumer) (consumer-found rules past are.1 l window.live h.consumer))
-        ]
+    woken-wakes : IsWoken rules e past are lawful d l h → to_try (address_of d (e ∷ past)) ≡ true
+    woken-wakes woken = elim woken [
+      | inl flow ↦ here (credited l flow.link h.consumer flow.flow)
+      | inr more ↦ elim more [
+        | inl part ↦ here (ap (λ (m : Link). to_try m.address) (sym part.link) ∙ freed part.delivery part.is part.last)
+        | inr window ↦ here (granted l window (has.stands l window.live h.consumer) (consumer-found rules past are.1 l window.live h.consumer))
       ]
+    ]
+
+    -- what the event completes, at an address where one waits already, or where none does
+    completed-by : (b : Bool) → has_waiting rules (address_of d (e ∷ past)) past ≡ b → completed_by e ≡ Some d → to_try (address_of d (e ∷ past)) ≡ true
+    completed-by false none now = completed d now none
+    completed-by true waits now = elim (other-before rules e past are lawful d l h waits) [
+      | inl woken ↦ woken-wakes woken
+      | inr there ↦ ap to_try (sym there.1.1) ∙ kept (address_of there.0 past) (has.to_try there.0 l there.1.0)
+    ]
+
+    to_try-by : (b : Bool) → completes d e ≡ b → to_try (address_of d (e ∷ past)) ≡ true
+    to_try-by true now = completed-by (has_waiting rules (address_of d (e ∷ past)) past) refl (completed-now rules e past are lawful d l h now)
+    to_try-by false none = elim (might-before rules e past are lawful d l h none) [
+      | inl woken ↦ woken-wakes woken
       | inr before ↦ ap to_try (address_of-same e past d none) ∙ kept (address_of d past) (has.to_try d l before)
     ]
 

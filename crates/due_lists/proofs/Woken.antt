@@ -1,8 +1,9 @@
 -- A delivery that may begin behind one more event: it might before, or the event does what brings its address among those to
 -- look at.
-use Rattle.std.proofs.Common.{◌≡◌, refl, sym, ap, subst, ◌∙◌, ℕ, ◌-◌, Bool, true, false, not, ◌&&◌, ◌⊎◌, inl, inr, List, ◌∷◌, Option, Some, None, IfSome, option_and_then, nat_lt, if◌then◌else◌, ◌==◌, eqb-true, ltb-true, lt-ltb, arith}
+use Rattle.std.proofs.Common.{◌≡◌, refl, sym, ap, subst, ◌∙◌, ℕ, ◌-◌, Bool, true, false, not, ◌&&◌, ◌⊎◌, inl, inr, List, ◌∷◌, Option, Some, None, IfSome, option_and_then, nat_lt, if◌then◌else◌, ◌==◌, bytes_eq, eqb-true, ltb-true, lt-ltb, arith}
 use Rattle.std.specs.Prelude.{is_none}
 use Rattle.std.specs.List.{cons_option}
+use Rattle.std.proofs.lemmas.Slice.Eq.{bytes_eq-Decides}
 use Rattle.amqp_perf.specs.Meaning.{Meaning, AnOpen, ABegin, AnAttach, AFlow, ATransfer, ADisposition, ADetach, AnEnd, AClose}
 use Rattle.capture_form.specs.Rules.{RuleSet}
 use Rattle.flow_counts.specs.Credit as counts
@@ -14,10 +15,11 @@ use Rattle.trace_events.specs.Said.{in_transfer}
 use Rattle.trace_events.specs.Link.{IsLiveLink, link_at}
 use Rattle.trace_events.specs.Credit.{link_credit, link_event, link_events, in_link_event, out_link_event, begins_incoming, begins_outgoing}
 use Rattle.trace_events.specs.Window.{session_window, window_event, in_window_event}
-use Rattle.trace_events.specs.Incoming.{completed_by, completes, is_complete, is_last_part, incoming_at, incoming_begun}
+use Rattle.trace_events.specs.Incoming.{address_of, completed_by, completes, is_complete, is_last_part, incoming_at, incoming_begun, incoming_deliveries}
 use Rattle.trace_events.specs.Outgoing.{in_progress, is_paired}
 use Rattle.trace_events.specs.Queue.{stays}
-use Rattle.trace_events.specs.Waiting.{is_waiting, is_of_multicast, always_had_consumer}
+use Rattle.trace_events.specs.Waiting.{has_waiting, is_waiting, is_of_multicast, always_had_consumer}
+use Rattle.trace_events.specs.TransferClause.{may_take}
 use Rattle.trace_events.proofs.Along.{and_first, and_last, some_passes}
 use Rattle.trace_events.proofs.IncomingSteps.{address_of-same}
 use Rattle.trace_events.proofs.OutgoingSteps.{is_part_on}
@@ -35,6 +37,8 @@ use Rattle.due_lists.specs.Standing.{goes_on, has_window, is_their_flow}
 use Rattle.due_lists.proofs.DrainingLinks.{event-link, link-unused, on-link}
 use Rattle.due_lists.proofs.LiveOnes.{link-before, link-found}
 use Rattle.due_lists.proofs.StandingParts.{window-before}
+use Rattle.due_lists.proofs.CopiesDue.{found-of}
+use Rattle.due_lists.proofs.Members.{some-passes}
 use Rattle.due_lists.specs.Waking.{MayBegin, IsCredited, IsFreed, IsGranted}
 
 same_some : {A : Type 0} (a b : A) → Some a ≡ Some b → a ≡ b
@@ -214,29 +218,61 @@ module _ (rules : RuleSet) (e : Event) (past : List Event) (are : AreJudged rule
   abbrev pub IsWoken : Type 0
   IsWoken = IsCredited e l ⊎ (IsFreed e l ⊎ IsGranted e past l)
 
-  module _ (none : completes d e ≡ false) where
-    by-window : (was : IsLiveLink l past) → nat_lt 0 (link_credit l past) ≡ true → is_none (in_progress l past) ≡ true → IsWoken ⊎ MayBegin rules past d l
-    by-window was credit idle = elim (shut-by was (has_window l.session past) refl) [
-      | inl granted ↦ inl (inr (inr granted))
-      | inr window ↦ inr (record {
-        found = found (waited none);
-        waits = waited none;
-        live = was;
-        consumer = h.consumer;
-        address = h.address ∙ address_of-same e past d none;
-        takes = all-three (nat_lt 0 (link_credit l past)) (nat_lt 0 (session_window l.session past)) (is_none (in_progress l past)) credit window idle;
-      })
-    ]
+  -- the link might be sent one before, or the address is woken by what the event does to the link
+  might-by-window : (was : IsLiveLink l past) → nat_lt 0 (link_credit l past) ≡ true → is_none (in_progress l past) ≡ true → IsWoken ⊎ (IsLiveLink l past × (may_take past l ≡ true))
+  might-by-window was credit idle = elim (shut-by was (has_window l.session past) refl) [
+    | inl granted ↦ inl (inr (inr granted))
+    | inr window ↦ inr (was, all-three (nat_lt 0 (link_credit l past)) (nat_lt 0 (session_window l.session past)) (is_none (in_progress l past)) credit window idle)
+  ]
 
-    by-part : (was : IsLiveLink l past) → nat_lt 0 (link_credit l past) ≡ true → IsWoken ⊎ MayBegin rules past d l
-    by-part was credit = elim (idle-before was) [
-      | inl freed ↦ inl (inr (inl freed))
-      | inr idle ↦ by-window was credit idle
-    ]
+  might-by-part : (was : IsLiveLink l past) → nat_lt 0 (link_credit l past) ≡ true → IsWoken ⊎ (IsLiveLink l past × (may_take past l ≡ true))
+  might-by-part was credit = elim (idle-before was) [
+    | inl freed ↦ inl (inr (inl freed))
+    | inr idle ↦ might-by-window was credit idle
+  ]
 
-    -- it might begin before, or its address is woken
-    pub might-before : IsWoken ⊎ MayBegin rules past d l
-    might-before = elim credit-before [
-      | inl credited ↦ inl (inl credited)
-      | inr credit ↦ by-part (lived credit) credit
-    ]
+  link-might : IsWoken ⊎ (IsLiveLink l past × (may_take past l ≡ true))
+  link-might = elim credit-before [
+    | inl credited ↦ inl (inl credited)
+    | inr credit ↦ might-by-part (lived credit) credit
+  ]
+
+  -- it might begin before, or its address is woken
+  pub might-before : completes d e ≡ false → IsWoken ⊎ MayBegin rules past d l
+  might-before none = elim link-might [
+    | inl woken ↦ inl woken
+    | inr might ↦ inr (record {
+      found = found (waited none);
+      waits = waited none;
+      live = might.0;
+      consumer = h.consumer;
+      address = h.address ∙ address_of-same e past d none;
+      takes = might.1;
+    })
+  ]
+
+  -- where one waits at its address already, that one might begin before, or the address is woken
+  pub other-before : has_waiting rules (address_of d (e ∷ past)) past ≡ true
+      → IsWoken ⊎ ((other : Incoming) × (MayBegin rules past other l × (address_of other past ≡ address_of d (e ∷ past))))
+  other-before waits = elim link-might [
+    | inl woken ↦ inl woken
+    | inr might ↦
+        let address = address_of d (e ∷ past) in
+        let there = some-passes (λ (x : Incoming). bytes_eq (address_of x past) address && is_waiting rules x past) (incoming_deliveries past) waits in
+        let same : address_of there.0 past ≡ address =
+        (bytes_eq-Decides (address_of there.0 past) address).0 (and_first (bytes_eq (address_of there.0 past) address) (is_waiting rules there.0 past) there.1.1) in
+        inr (
+          there.0,
+          (
+            record {
+              found = found-of rules past are.1 there.0 there.1.0;
+              waits = and_last (bytes_eq (address_of there.0 past) address) (is_waiting rules there.0 past) there.1.1;
+              live = might.0;
+              consumer = h.consumer;
+              address = h.address ∙ sym same;
+              takes = might.1;
+            },
+            same,
+          ),
+        )
+  ]

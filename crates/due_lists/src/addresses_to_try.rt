@@ -10,6 +10,7 @@ ghost use Rattle.trace_events.specs.Session.{IsLiveOn};
 ghost use Rattle.trace_events.specs.declared.session.Session.{Session};
 ghost use Rattle.trace_events.specs.Words.{is_some_and};
 ghost use Rattle.trace_events.specs.View.{Events, event_view};
+ghost use Rattle.trace_events.specs.Waiting.{has_waiting};
 ghost use Rattle.state_tables.specs.ConsumerLinks.{consumer_at, link_in};
 ghost use Rattle.state_answers.specs.Tables.{TellsOf};
 ghost use Rattle.due_lists.specs.Standing.{goes_on, grants_window, has_window};
@@ -66,10 +67,11 @@ impl AddressesToTry {
         }
     }
 
-    /// Those come in at which a delivery may begin by what the event does: it completes one there, gives a link of a
-    /// consumer credit, ends the delivery on it, or gives window to its session, which had none; and those of the links that it
-    /// ends, where what waited may be over. What it completes is for this address; `links` are the live links of consumers,
-    /// `before` the tables without the event.
+    /// Those come in at which a delivery may begin by what the event does: it completes one there where none waited, gives a
+    /// link of a consumer credit, ends the delivery on it, or gives window to its session, which had none; and those of the
+    /// links that it ends, where what waited may be over. What it completes is for this address: where one waits there already,
+    /// the link that could take the new one could take that, and the address is among them. `links` are the live links of
+    /// consumers, `before` the tables without the event.
     ///
     /// # Errors
     ///
@@ -82,7 +84,8 @@ impl AddressesToTry {
         before: &LentTables<'_>,
         ended: &[Link],
     ) -> Result<(), AllocError>
-        ensures completed { OnOk result ((d : law.Incoming) → completed_by (event_view event.now) ≡ Some d → is_to_try self.new address.now ≡ true) }
+        ensures completed { OnOk result ((rules : RuleSet) (past : Events) → TellsOf rules before.now past → (d : law.Incoming) →
+            completed_by (event_view event.now) ≡ Some d → has_waiting rules address.now past ≡ false → is_to_try self.new address.now ≡ true) }
         ensures credited { OnOk result ((l : law.Link) → (event_view event.now).link ≡ Some l → is_consumer l ≡ true →
             grants_window (event_view event.now) ≡ true → is_to_try self.new l.address ≡ true) }
         ensures freed { OnOk result ((j : law.Outgoing) → (event_view event.now).outgoing ≡ Some j → goes_on (event_view event.now) ≡ false →
@@ -94,7 +97,7 @@ impl AddressesToTry {
         ensures kept { OnOk result (IsKept self.old self.new) }
     {
         self.add_ended(ended)?;
-        self.add(completed(event, address))?;
+        self.add(completed(event, address, before))?;
         self.add(credited(event))?;
         self.add(freed(event))?;
         self.wake_session(granted(event, before), links, before.consumer_links)?;
@@ -162,13 +165,15 @@ impl AddressesToTry {
     }
 }
 
-/// This address, where the event completes a delivery.
-fn completed<'a>(event: &Event, address: &'a [u8]) -> Option<&'a [u8]>
-    ensures { (d : law.Incoming) → completed_by (event_view event.now) ≡ Some d → option_map (λ octets. octets.now) result ≡ Some address.now }
+/// This address, where the event completes a delivery and none waits there already.
+fn completed<'a>(event: &Event, address: &'a [u8], before: &LentTables<'_>) -> Option<&'a [u8]>
+    ensures { (rules : RuleSet) (past : Events) → TellsOf rules before.now past → (d : law.Incoming) →
+        completed_by (event_view event.now) ≡ Some d → has_waiting rules address.now past ≡ false →
+        option_map (λ octets. octets.now) result ≡ Some address.now }
 {
     match event.completed_by() {
-        Some(_) => Some(address),
-        None => None,
+        Some(_) if !before.deliveries.has_waiting(address) => Some(address),
+        _ => None,
     }
 }
 
