@@ -15,7 +15,7 @@ ghost use Rattle.state_tables.specs.ConsumerLinks.{consumer_at, link_in};
 ghost use Rattle.state_answers.specs.Tables.{TellsOf};
 ghost use Rattle.due_lists.specs.Standing.{goes_on, grants_window, has_window};
 ghost use Rattle.due_lists.specs.BySession.{stands};
-ghost use Rattle.due_lists.specs.AddressesToTry.{IsKept, address_at, count_of, is_among_first, is_link_to, is_to_try};
+ghost use Rattle.due_lists.specs.AddressesToTry.{IsKept, address_at, count_of, is_among_first, is_consumer_to, is_to_try};
 ghost use Rattle.due_lists.specs.Waking.{IsGranted};
 
 use crate::by_session::BySession;
@@ -69,9 +69,9 @@ impl AddressesToTry {
 
     /// Those come in at which a delivery may begin by what the event does: it completes one there where none waited, gives a
     /// link of a consumer credit, ends the delivery on it, or gives window to its session, which had none; and those of the
-    /// links that it ends, where what waited may be over. What it completes is for this address: where one waits there already,
-    /// the link that could take the new one could take that, and the address is among them. `links` are the live links of
-    /// consumers, `before` the tables without the event.
+    /// consumers' links that it ends, where what waited may be over. What it completes is for this address: where one waits
+    /// there already, the link that could take the new one could take that, and the address is among them. `links` are the live
+    /// links of consumers, `before` the tables without the event.
     ///
     /// # Errors
     ///
@@ -93,7 +93,7 @@ impl AddressesToTry {
         ensures granted { OnOk result ((rules : RuleSet) (past : Events) → TellsOf rules before.now past → (l : law.Link) →
             IsGranted (event_view event.now) past l → stands links.now l.session.number l.number ≡ true → consumer_at l.number past ≡ Some l →
             is_to_try self.new l.address ≡ true) }
-        ensures ended { OnOk result ((at : List ℕ) → list_any (is_link_to at) ended.now ≡ true → is_to_try self.new at ≡ true) }
+        ensures ended { OnOk result ((at : List ℕ) → list_any (is_consumer_to at) ended.now ≡ true → is_to_try self.new at ≡ true) }
         ensures kept { OnOk result (IsKept self.old self.new) }
     {
         self.add_ended(ended)?;
@@ -104,13 +104,13 @@ impl AddressesToTry {
         Ok(())
     }
 
-    /// The addresses of these links come in.
+    /// The addresses of the consumers' links among these come in.
     fn add_ended(&mut self, ended: &[Link]) -> Result<(), AllocError>
-        ensures ended { OnOk result ((at : List ℕ) → is_to_try self.new at ≡ (is_to_try self.old at || list_any (is_link_to at) ended.now)) }
+        ensures ended { OnOk result ((at : List ℕ) → is_to_try self.new at ≡ (is_to_try self.old at || list_any (is_consumer_to at) ended.now)) }
         ensures kept { OnOk result (IsKept self.old self.new) }
     {
         for link in ended {
-            self.insert(link.address)?;
+            self.add(served(link))?;
         }
         Ok(())
     }
@@ -162,6 +162,17 @@ impl AddressesToTry {
         ensures fewer { index < count_of self.old → count_of self.new + 1 ≡ count_of self.old }
     {
         self.addresses.swap_remove_index(index);
+    }
+}
+
+/// The address of the link, if it is a consumer's.
+fn served<'a>(link: &Link<'a>) -> Option<&'a [u8]>
+    ensures { (at : List ℕ) → is_some_and result (λ octets. bytes_eq octets.now at) ≡ is_consumer_to at link.now }
+{
+    if link.is_consumer() {
+        Some(link.address)
+    } else {
+        None
     }
 }
 
