@@ -77,6 +77,11 @@ impl<G: Gate> Line<G> {
         self.waiting
     }
 
+    /// How many records lie in its inbox.
+    pub(crate) fn came(&self) -> usize {
+        self.inbox.len()
+    }
+
     /// Whether its gate was shut, and its core has taken all that came of it.
     pub(crate) fn is_over(&self) -> bool
         ensures { IsTrue result ↔ ((self.now.status ≡ Ended) × (self.now.inbox.items ≡ [])) }

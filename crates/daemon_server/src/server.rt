@@ -131,9 +131,9 @@ impl<D: Dues + Drop, W: Write + Drop, G: Gate + Drop> Server<D, W, G> {
         }
     }
 
-    /// One round: each connection that is signed has a turn; the core takes what came of them; the writer takes the records of that;
-    /// and only then the frames that they tell are laid out for their connections, which have a turn in the next round. Says whether
-    /// any has.
+    /// One round: the connections that are signed have a turn each, in order, until enough was heard of them, those that are left in
+    /// the next round; the core takes what came; and the writer takes the records of that, before a later round gives any connection
+    /// a turn in which it is written a frame that they tell. Says whether any has a turn in the next round.
     ///
     /// # Errors
     ///
@@ -145,7 +145,7 @@ impl<D: Dues + Drop, W: Write + Drop, G: Gate + Drop> Server<D, W, G> {
         if self.has_stopped {
             return Err(Halt::Stopped);
         }
-        match serve_round(self.alloc, &mut self.core, &mut self.table, buffer) {
+        match serve_round(&mut self.core, &mut self.table, buffer) {
             Ok(()) => Ok(self.table.is_signed()),
             Err(halt) => {
                 self.has_stopped = true;

@@ -6,6 +6,7 @@ ghost use Rattle.capture_form.specs.declared.records.Record.{Record as Entry};
 ghost use Rattle.capture_journal.specs.Journals.{IsPassedOn};
 ghost use Rattle.daemon_server.specs.Lines.{HasCome, HasLeft, HasSigned, Serves};
 
+use crate::halt::Halt;
 use crate::line::Line;
 use crate::recording::RecordingCore;
 use capture_form::{Record, What};
@@ -139,9 +140,9 @@ impl<G: Gate + Drop> Table<G> {
         mem::replace(&mut self.signed, Vec::new(self.alloc))
     }
 
-    /// The connection of this number, if it is open, has a turn, and one more in the next round where this one moved octets. The core
-    /// stands here for the contract alone: all that it has was handed to the writer, which has passed it on, before any frame of it is
-    /// written to a gate.
+    /// The connection of this number, if it is open, has a turn, and one more in the next round where this one moved octets. Tells how
+    /// many records came of it that the core is to take. The core stands here for the contract alone: all that it has was handed to the
+    /// writer, which has passed it on, before any frame of it is written to a gate.
     ///
     /// # Errors
     ///
@@ -151,20 +152,43 @@ impl<G: Gate + Drop> Table<G> {
         core: &RecordingCore<D, W>,
         number: u32,
         buffer: &mut [u8],
-    ) -> Result<(), Stop>
+    ) -> Result<usize, Stop>
         requires passed { IsPassedOn core.now.journal }
         requires serves { (waiting : List ℕ) × Serves G.delivered G.took G.has_ended core.now.journal.records [] waiting self.old }
         requires room { 0 < length buffer.old }
         ensures serves { OnOk result ((waiting : List ℕ) → Serves G.delivered G.took G.has_ended core.now.journal.records [] waiting self.old
             → Serves G.delivered G.took G.has_ended core.now.journal.records [] (waiting ++ number ∷ []) self.new) }
     {
-        match self.turn_of(core, number, buffer)? {
-            Some(Turn::Moved) => match self.sign(number) {
-                Ok(()) => Ok(()),
-                Err(_refused) => Err(Stop::Memory),
-            },
-            _ => Ok(()),
+        if self.turn_of(core, number, buffer)? == Some(Turn::Moved) && self.sign(number).is_err() {
+            return Err(Stop::Memory);
         }
+        Ok(self.came_of(number))
+    }
+
+    /// How many records lie in the inbox of the connection of this number, of which no clause speaks.
+    fn came_of(&self, number: u32) -> usize {
+        match self.lines.get(&number) {
+            Some(line) => line.came(),
+            None => 0,
+        }
+    }
+
+    /// Those of these numbers have a turn in the next round, in front of those that are signed already.
+    ///
+    /// # Errors
+    ///
+    /// Where memory is refused. Then some may have none.
+    pub fn put_back(&mut self, numbers: &[u32]) -> Result<(), AllocError>
+        ensures serves { OnOk result ((records given : List Entry) (waiting : List ℕ) → Serves G.delivered G.took G.has_ended records given waiting self.old → Serves G.delivered G.took G.has_ended records given waiting self.new) }
+        ensures signed { OnOk result (self.new.signed.items ≡ numbers.now ++ self.old.signed.items) }
+    {
+        if numbers.is_empty() {
+            return Ok(());
+        }
+        let mut signed = numbers.to_vec(self.alloc)?;
+        signed.append(&mut self.signed)?;
+        self.signed = signed;
+        Ok(())
     }
 
     /// The connection of this number, if it is open, has a turn.
@@ -190,30 +214,47 @@ impl<G: Gate + Drop> Table<G> {
         Ok(turn)
     }
 
-    /// The core takes what came of the connection of this number, in order. What it gives stands behind what it gave before.
+    /// The core takes what came of the connection of this number, in order, and each frame that it writes is laid out for its
+    /// connection, which has a turn in the next round.
     ///
     /// # Errors
     ///
-    /// As `step_inbox`.
+    /// `Core` as `step_inbox` says, and `Memory`.
     pub fn step<D: Dues + Drop, W: Write + Drop>(
         &mut self,
         core: &mut RecordingCore<D, W>,
         number: u32,
-        given: &mut Vec<Record>,
-    ) -> Result<(), StepFault>
-        requires serves { (waiting : List ℕ) × Serves G.delivered G.took G.has_ended core.old.journal.records given.old.items waiting self.old }
-        ensures serves { OnOk result ((waiting : List ℕ) → Serves G.delivered G.took G.has_ended core.old.journal.records given.old.items (number ∷ waiting) self.old
-            → Serves G.delivered G.took G.has_ended core.new.journal.records given.new.items waiting self.new) }
+    ) -> Result<(), Halt>
+        requires serves { (waiting : List ℕ) × Serves G.delivered G.took G.has_ended core.old.journal.records [] waiting self.old }
+        ensures serves { OnOk result ((waiting : List ℕ) → Serves G.delivered G.took G.has_ended core.old.journal.records [] (number ∷ waiting) self.old
+            → Serves G.delivered G.took G.has_ended core.new.journal.records [] waiting self.new) }
+    {
+        match self.records_of(core, number) {
+            Ok(given) => match self.lay_all(given) {
+                Ok(()) => Ok(()),
+                Err(_refused) => Err(Halt::Memory),
+            },
+            Err(fault) => Err(Halt::Core(fault)),
+        }
+    }
+
+    /// The core takes what came of the connection of this number, in order, and gives the records of all these steps, whose frames are
+    /// still to be laid out.
+    fn records_of<D: Dues + Drop, W: Write + Drop>(
+        &mut self,
+        core: &mut RecordingCore<D, W>,
+        number: u32,
+    ) -> Result<Vec<Record>, StepFault>
+        requires serves { (waiting : List ℕ) × Serves G.delivered G.took G.has_ended core.old.journal.records [] waiting self.old }
+        ensures serves { IfOk result (λ given. (waiting : List ℕ) → Serves G.delivered G.took G.has_ended core.old.journal.records [] (number ∷ waiting) self.old
+            → Serves G.delivered G.took G.has_ended core.new.journal.records given.items waiting self.new) }
     {
         let alloc = self.alloc;
         let Some(line) = self.lines.get_mut(&number) else {
-            return Ok(());
+            return Ok(Vec::new(alloc));
         };
-        let mut more = line.step(alloc, core)?;
-        match given.append(&mut more) {
-            Ok(()) => Ok(()),
-            Err(_refused) => Err(StepFault::Memory),
-        }
+        let given = line.step(alloc, core)?;
+        Ok(given)
     }
 
     /// Lays each frame that is written in these records out for its connection, which has a turn in the next round.
@@ -221,7 +262,7 @@ impl<G: Gate + Drop> Table<G> {
     /// # Errors
     ///
     /// Where memory is refused.
-    pub fn lay_all(&mut self, given: Vec<Record>) -> Result<(), AllocError>
+    fn lay_all(&mut self, given: Vec<Record>) -> Result<(), AllocError>
         ensures serves { OnOk result ((records : List Entry) (waiting : List ℕ) → Serves G.delivered G.took G.has_ended records given.items waiting self.old → Serves G.delivered G.took G.has_ended records [] waiting self.new) }
     {
         for entry in given {
