@@ -37,8 +37,9 @@ const LAST_WORDS: u64 = 1000;
 /// How many of these it waits for a client that takes none of it.
 const LAST_WAIT: u64 = 100;
 
-/// So many rounds it has at its end at most, of which the first ends all connections but those to which something is due.
-const LAST_ROUNDS: usize = 100;
+/// So many rounds it has at its end at most. Each ends some thousand connections at least, but for those to which something is due, and
+/// there are a million at most.
+const LAST_ROUNDS: usize = 2_000;
 
 /// How many connections there may be, and how much may wait for them.
 #[derive(Clone, Copy, Debug, PartialEq, Eq)]
