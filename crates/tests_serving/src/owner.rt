@@ -5,11 +5,14 @@
 //! - `writer`: a writer in memory that may fail
 //! - `run`: two clients that are served to their ends
 //! - `kinds`: runs of a kind, and how many of them came to what
+//! - `crowd`: many clients at once
 
+mod crowd;
 mod kinds;
 mod run;
 mod writer;
 
+use crowd::serve_crowd;
 use kinds::CaptureCounts;
 use kit_gates::{
     BEGINS_LATE, CONSUMER, IN_HASTE, MESSAGE, ONE_BY_ONE, OPENS_LATE, Pace, Pair, Part, QUIET,
@@ -35,7 +38,9 @@ pub fn run_all<R: Print>(rt: &R, alloc: Global) -> io::Result<()> {
     fail(rt, alloc)?;
     meet_strangers(rt, alloc)?;
     take_nothing(rt, alloc)?;
-    stop(rt, alloc)
+    stop(rt, alloc)?;
+    let came = serve_crowd(alloc)?;
+    println!(rt; "1500 at once: {came}")
 }
 
 /// The exchange, octet by octet.
